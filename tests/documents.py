@@ -8,7 +8,7 @@ backslash, and to the end of a here-document. The lines below it are its output,
 any lines, `[..]` in a line any characters. Blocks marked `sh` are commands that need another machine (systemd, a package
 registry, the network); they are counted, and not run.
 
-The commands of a page run in one bash, in order, in a fresh folder with copies of vtmap/, bin/, web/, examples/, docs/ and
+The commands of a page run in one bash, in order, in a fresh folder with copies of vtmap/, bin/, web/, examples/, docs/, tools/ and
 crates/vtserve/stdin, as in a clone, with PROGRAM in crates/vtserve/out/ and on the PATH, and /usr/sbin for pages that root reads. Each page has its own network, processes, /etc, /usr/local and /var/lib
 (`unshare` and an overlay, so this needs root on Linux): ports and paths are as written, and nothing of the machine changes. Prints
 each difference and the counts, and ends with 1 if there is a difference. --show prints all that the commands print. Without --page it
@@ -140,7 +140,7 @@ def run_page(page, program, show):
             os.makedirs(upper)
             os.makedirs(work)
             subprocess.run(["mount", "-t", "overlay", "overlay", "-o", f"lowerdir={own},upperdir={upper},workdir={work}", own], check=True)
-        for name in ["vtmap", "bin", "web", "examples", "docs"]:
+        for name in ["vtmap", "bin", "web", "examples", "docs", "tools"]:
             shutil.copytree(os.path.join(TOP, name), os.path.join(folder, name))
         os.makedirs(f"{folder}/crates/vtserve")
         shutil.copy(os.path.join(TOP, "crates", "vtserve", "stdin"), f"{folder}/crates/vtserve/stdin")

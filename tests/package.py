@@ -30,7 +30,7 @@ LOG = "/var/lib/vtserve-log/edits.jsonl"
 WITH = "curl,logrotate,nginx-light,systemd,procps"
 # What other accounts of the machine don't read, once the units have run.
 PRIVATE = ["/var/lib/vtserve/map.disk", "/var/backups/vtserve/*", "/var/lib/vtserve-log/*", "/var/lib/vtserve-wfs/*", "/var/lib/vtserve-nginx/*.log"]
-PAGE = {"": "text/html", "page.js": "text/javascript", "page.css": "text/css", "style.json": "application/json"}
+PAGE = {"": "text/html", "page.js": "text/javascript", "page.css": "text/css", "style.json": "application/json", "vtmap.pyz": "application/octet-stream"}
 
 
 def ran(*words, root=None, **more):
@@ -82,6 +82,7 @@ def installed(cases, root, package):
     version = done("dpkg-query", "-W", "-f", "${Version}", "vtserve", root=root)
     for name in ("vtserve", "vtmap"):
         cases.show(f"{name} --version", ran(name, "--version", root=root), (0, f"{name} {version}\n"))
+    cases.show("vtmap.pyz --version", ran("python3", "/usr/share/vtserve/web/vtmap.pyz", "--version", root=root), (0, f"vtmap {version}\n"))
     for page in ("vtserve", "vtmap"):
         text = subprocess.run(["zcat", f"{root}/usr/share/man/man1/{page}.1.gz"], stdout=subprocess.PIPE, check=True).stdout
         told = subprocess.run(["groff", "-man", "-Tutf8", "-ww", "-z"], input=text, capture_output=True, check=False) if shutil.which("groff") else None

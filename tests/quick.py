@@ -78,6 +78,7 @@ PARTS = [
     client("wfs-tables"),
     client("outsiders"),
     client("standby"),
+    client("windows"),
     client("join"),
     client("maps"),
     client("requests"),

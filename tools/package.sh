@@ -37,11 +37,12 @@ cp -r "$top/vtmap" "$root/usr/lib/vtserve/"
 find "$root/usr/lib/vtserve" -name __pycache__ -exec rm -r {} +
 find "$root/usr/lib/vtserve" -type f -exec chmod 644 {} +
 
-# The page: its style is a configuration file of its own, so that a new version keeps it.
+# The page: its style is a configuration file of its own, so that a new version keeps it. Beside it vtmap as one file, for the offices.
 mkdir -p "$share" "$root/etc/vtserve"
 cp -r "$top/web" "$share/"
 mv "$share/web/style.json" "$root/etc/vtserve/style.json"
 ln -s /etc/vtserve/style.json "$share/web/style.json"
+python3 "$top/tools/pyz.py" "$share/web/vtmap.pyz"
 ln -s ../../share/vtserve/web "$root/usr/lib/vtserve/web"
 
 # What runs it: nothing of it is enabled.

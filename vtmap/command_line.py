@@ -1,11 +1,12 @@
 """The command line of vtmap: one command of many, their common words, and how each ends."""
 import argparse
+import errno
 import gc
 import importlib
 import os
 import sys
 
-from . import VERSION
+from . import VERSION, systems
 from .ending import drop, told
 from .faults import Fault
 
@@ -86,6 +87,7 @@ def collect_rarely():
 
 def main(line):
     """Runs a command. Returns its status."""
+    systems.prepare_consoles((sys.stdout, sys.stderr))
     module, words = asked(line)
     collect_rarely()
     # What a file, or standard output, that can't be written or read ends with.
@@ -104,4 +106,7 @@ def main(line):
         # Whoever read standard output wants no more of it.
         return drop(failed)
     except OSError as fault:
+        if systems.is_windows() and fault.errno == errno.EINVAL and not fault.filename:
+            # How Windows says that.
+            return drop(failed)
         return drop(told(f"{fault}" if fault.filename else f"standard output, or a file: {fault}", failed))

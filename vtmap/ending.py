@@ -3,6 +3,7 @@ import os
 import sys
 
 from .shown import shown_lines
+from .systems import put_in_place
 
 
 def told(text: str, status: int) -> int:
@@ -27,6 +28,6 @@ def regular(path: str) -> str:
 
 def replaced(path: str, text: str, ending: str = ".part") -> None:
     """Replaces the content of a file, which has what it had until all of it is written."""
-    with open(regular(path) + ending, "w", encoding="utf-8") as file:
+    with open(regular(path) + ending, "w", encoding="utf-8", newline="\n") as file:
         file.write(text)
-    os.replace(path + ending, path)
+    put_in_place(path + ending, path)

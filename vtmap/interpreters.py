@@ -1,12 +1,14 @@
 """Finds an interpreter that has a package of the system, such as GDAL's module, which Debian's /usr/bin/python3 has and others mostly don't."""
+from __future__ import annotations
+
 import importlib.util
 import os
 import shutil
 import subprocess
-import sys
 from collections.abc import Sequence
 
 from .faults import Refused
+from .systems import become, is_windows
 
 # Set for the interpreter that was found, so that it looks for no other one.
 FOUND = "VTMAP_INTERPRETER"
@@ -20,7 +22,8 @@ def has(package: str) -> bool:
 
 def other(package: str) -> str | None:
     """Another interpreter that has it, or None."""
-    for path in dict.fromkeys(filter(None, ["/usr/bin/python3", "/usr/local/bin/python3", shutil.which("python3")])):
+    names = [shutil.which("python3"), shutil.which("python")] if is_windows() else ["/usr/bin/python3", "/usr/local/bin/python3", shutil.which("python3")]
+    for path in dict.fromkeys(filter(None, names)):
         if os.path.exists(path) and subprocess.run([path, "-c", f"import {package}"], capture_output=True, check=False).returncode == 0:
             return path
     return None
@@ -35,8 +38,7 @@ def look_for(package: str, words: Sequence[str]) -> None:
         return
     folder = os.path.dirname(os.path.dirname(os.path.abspath(__file__)))
     places = [folder, *filter(None, os.environ.get("PYTHONPATH", "").split(os.pathsep))]
-    sys.stdout.flush()
-    os.execve(path, [path, "-m", "vtmap", *words], {**os.environ, FOUND: package, "PYTHONPATH": os.pathsep.join(places)})
+    become([path, "-m", "vtmap", *words], {**os.environ, FOUND: package, "PYTHONPATH": os.pathsep.join(places)})
 
 
 def need(package: str, words: Sequence[str]) -> None:
@@ -44,4 +46,5 @@ def need(package: str, words: Sequence[str]) -> None:
     look_for(package, words)
     if not has(package):
         name, debian = PACKAGES[package]
-        raise Refused(f"{name} is needed (Debian: {debian}), and no python3 here has it")
+        place = "the OSGeo4W Shell, which comes with QGIS, has it: run this there" if is_windows() else f"Debian: {debian}"
+        raise Refused(f"{name} is needed ({place}), and no python3 here has it")

@@ -18,7 +18,7 @@ def shown_lines(text):
     return "\n".join(line if line.isprintable() else repr(line)[1:-1] for line in str(text).split("\n"))
 
 
-def shown_json(value):
-    """A value as JSON in one line, in which control characters have their numbers."""
-    text = json.dumps(value, ensure_ascii=False, separators=(",", ":"))
+def shown_json(value, is_ascii=False):
+    """A value as JSON in one line, in which control characters have their numbers, and all but ASCII if a terminal hasn't got more."""
+    text = json.dumps(value, ensure_ascii=is_ascii, separators=(",", ":"))
     return CONTROLS.sub(lambda found: f"\\u{ord(found[0]):04x}", text)

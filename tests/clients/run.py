@@ -63,6 +63,7 @@ from wfs_hostile import wfs_hostile
 from wfs_qgis import wfs_qgis
 from wfs_random import wfs_random
 from wfs_tables import wfs_tables
+from windows import windows
 
 
 def main():
@@ -122,6 +123,7 @@ def main():
         "outsiders": outsiders,
         "units": units,
         "maps": maps,
+        "windows": windows,
     }
     words = sys.argv[2:]
     if not set(words) <= set(parts):

@@ -133,6 +133,23 @@ def places(cases, folder):
     cases.show("toolbox: python3 -m vtmap in a clone", ran(sys.executable, "-m", "vtmap", "--version", cwd=TOP), (0, "vtmap 0.2.0\n"))
 
 
+def one_file(cases, folder):
+    """vtmap.pyz: anywhere, twice the same, by a link, and by a Python that is too old."""
+    paths = [os.path.join(folder, name) for name in ("vtmap.pyz", "again.pyz")]
+    for path in paths:
+        cases.show("toolbox: tools/pyz.py", ran(sys.executable, os.path.join(TOP, "tools", "pyz.py"), path), (0, ""))
+    with open(paths[0], "rb") as one, open(paths[1], "rb") as other:
+        cases.show("toolbox: the same sources make the same file", one.read() == other.read(), True)
+    # -I: no package beside it, none of PYTHONPATH.
+    cases.show("toolbox: vtmap.pyz", ran(sys.executable, "-I", paths[0], "--version", cwd=folder), (0, "vtmap 0.2.0\n"))
+    cases.show("toolbox: it runs by itself", ran(paths[0], "--version", cwd=folder), (0, "vtmap 0.2.0\n"))
+    for name in NAMES:
+        code, told = ran(sys.executable, "-I", paths[0], name, "--help", cwd=folder)
+        cases.show(f"toolbox: vtmap.pyz {name} --help", (code, told.startswith(f"usage: vtmap {name} ")), (0, True))
+    script = "import runpy, sys; sys.version_info, sys.argv = (3, 8, 10), sys.argv[1:]; runpy.run_path(sys.argv[0], run_name='__main__')"
+    cases.show("toolbox: an old Python", ran(sys.executable, "-c", script, paths[0]), (1, "vtmap needs Python 3.9 or a newer one, and this is 3.8\n"))
+
+
 def interpreters(cases, folder):
     """An interpreter without GDAL finds the one that has it; where none has, that is said."""
     if not has_gdal(cases):
@@ -148,6 +165,8 @@ def interpreters(cases, folder):
         line = [os.path.join(bare, "python3"), os.path.join(TOP, "bin", "vtmap"), "import", path, "--url", server.url]
         code, told = ran(*line)
         cases.show("toolbox: an interpreter without GDAL finds one that has it", (code, told.splitlines()[-1]), (0, "1 taken, 0 refused"))
+        code, told = ran(line[0], os.path.join(folder, "vtmap.pyz"), "import", path, "--first", "5", "--layer", "two", "--url", server.url)
+        cases.show("toolbox: so does vtmap.pyz", (code, told.splitlines()[-1]), (0, "1 taken, 0 refused"))
         code, told = ran(*line, words={"VTMAP_INTERPRETER": "osgeo"})
         said = "GDAL's Python module is needed (Debian: python3-gdal), and no python3 here has it\n"
         cases.show("toolbox: and says so where there is none", (code, told), (1, said))
@@ -177,7 +196,7 @@ def toolbox(cases, folder):
     place = os.path.join(folder, "toolbox")
     os.mkdir(place)
     helps(cases)
-    for part in (addresses, listings, refusals, places, interpreters):
+    for part in (addresses, listings, refusals, places, one_file, interpreters):
         part(cases, place)
     old_names(cases)
     constants(cases)

@@ -1,4 +1,6 @@
 """Archives of files and of servers. What a server sends is read into a file first. Needs no package."""
+from __future__ import annotations
+
 import contextlib
 import http.client
 import os
@@ -50,7 +52,6 @@ def fetch(name: str, file: IO[bytes]) -> None:
         shutil.copyfileobj(reply, file, CHUNK)
         if reply.length:
             raise NoAnswer(f"{shown(name)}: the reply ended {reply.length:,} bytes early")
-        file.flush()
     except (OSError, http.client.HTTPException) as fault:
         raise NoAnswer(f"no reply of {shown(name)}: {fault}") from fault
     finally:
@@ -65,8 +66,8 @@ def opened(names: list[str], folder: str) -> Iterator[list[Archive]]:
         for name in names:
             path = name
             if is_address(name):
-                file = stack.enter_context(tempfile.NamedTemporaryFile(dir=folder))
-                fetch(name, file)
-                path = file.name
+                path = os.path.join(stack.enter_context(tempfile.TemporaryDirectory(dir=folder)), "archive")
+                with open(path, "wb") as file:
+                    fetch(name, file)
             found.append(stack.enter_context(Archive(path, shown(name) if is_address(name) else None)))
         yield found

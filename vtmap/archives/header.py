@@ -1,4 +1,6 @@
 """The header of PMTiles 3. Needs no package."""
+from __future__ import annotations
+
 import struct
 from typing import NamedTuple
 

@@ -3,6 +3,8 @@
 The tiles of all are read side by side, by ascending id. Tiles that one archive alone has are copied as they are; those
 that several have are merged. Where archives have runs, the part that they have in common is one step.
 """
+from __future__ import annotations
+
 import heapq
 import json
 from typing import Iterator, NamedTuple

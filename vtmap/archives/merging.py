@@ -4,6 +4,8 @@ ascending id, keys and values of a layer once and in order of first use. Needs n
 What a tile of vtserve has of a feature depends on that feature alone. So the merged tile has the bytes that it has on
 a map of all features.
 """
+from __future__ import annotations
+
 from typing import Iterator, NamedTuple
 
 from ..files.protobuf import bytes_field, fields, number_field, varint, varint_of

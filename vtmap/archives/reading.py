@@ -1,9 +1,12 @@
 """An archive of uncompressed vector tiles, read entry by entry: one directory of each level is in memory."""
+from __future__ import annotations
+
 import json
 import os
-from typing import Iterator, Self
+from typing import Iterator
 
 from ..faults import Fault
+from ..systems import open_to_read, read_at
 from .directory import BadDirectory, Entry, entries_in, tile_of
 from .header import LENGTH, fault_of, header_of
 
@@ -22,9 +25,9 @@ class Archive:
         self.name = name or path
         if os.path.exists(path) and not os.path.isfile(path):
             raise self.fault("it is no regular file")
-        self.file = os.open(path, os.O_RDONLY)
+        self.file = open_to_read(path)
         try:
-            data, size = os.pread(self.file, LENGTH, 0), os.fstat(self.file).st_size
+            data, size = read_at(self.file, LENGTH, 0), os.fstat(self.file).st_size
             fault = fault_of(data, size)
             if fault:
                 raise self.fault(fault)
@@ -34,7 +37,7 @@ class Archive:
             self.close()
             raise
 
-    def __enter__(self) -> Self:
+    def __enter__(self) -> Archive:
         return self
 
     def __exit__(self, *_: object) -> None:
@@ -52,7 +55,7 @@ class Archive:
         """The bytes at a place of the file."""
         data = b""
         while len(data) < length:
-            part = os.pread(self.file, length - len(data), place + len(data))
+            part = read_at(self.file, length - len(data), place + len(data))
             if not part:
                 raise self.fault("it was truncated while it was read")
             data += part

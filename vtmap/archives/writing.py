@@ -3,7 +3,6 @@
 In memory are the entries (28 bytes each), and a digest of each content (some 200 bytes). The contents are in a file
 without a name until the directories before them are known.
 """
-import fcntl
 import hashlib
 import os
 import shutil
@@ -12,6 +11,7 @@ from array import array
 from typing import IO, Iterator
 
 from ..faults import Refused
+from ..systems import close_to_move, lock, put_in_place
 from .directory import NUMBER_END, Entry, directory_of, zoom_and_place
 from .header import LENGTH, ROOT_END, Header
 
@@ -106,10 +106,8 @@ class Writer:
         root, leaves = self.directories()
         header = self.header(root, metadata, leaves, bounds)
         with open(path + ENDING, "ab") as file:
-            try:
-                fcntl.flock(file, fcntl.LOCK_EX | fcntl.LOCK_NB)
-            except BlockingIOError:
-                raise Refused(f"{path}: another process writes it") from None
+            if not lock(file):
+                raise Refused(f"{path}: another process writes it")
             try:
                 # What a process that was killed has left.
                 file.truncate(0)
@@ -118,8 +116,10 @@ class Writer:
                 shutil.copyfileobj(self.contents, file, CHUNK)
                 file.flush()
                 os.fsync(file.fileno())
-                os.replace(file.name, path)
+                close_to_move(file)
+                put_in_place(file.name, path)
             except BaseException:
+                close_to_move(file)
                 os.unlink(file.name)
                 raise
         return header

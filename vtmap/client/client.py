@@ -7,6 +7,8 @@
 A checked change (edits.py) replaces nothing that its author hasn't seen: if the map has another version, it is refused as a conflict, with
 that version. If no reply to an edit comes, the server is asked whether it was made, and it is sent again only if it wasn't.
 """
+from __future__ import annotations
+
 import http.client
 import json
 import operator

@@ -4,6 +4,8 @@ A change puts or deletes one feature. A checked one is made only if the map stil
 changes are one request and one edit: all of them are made or none. `batches` groups changes, in their order, into as few requests as
 their limits allow; `client.py` sends them.
 """
+from __future__ import annotations
+
 import json
 from collections import namedtuple
 from collections.abc import Iterable, Iterator

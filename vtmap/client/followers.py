@@ -3,6 +3,8 @@
 VTSERVE_PAUSE has the seconds that each command that publishes waits after the beginning, VTSERVE_STANDBYS the addresses of standbys, and VTSERVE_LOGS
 the paths of logs, with blanks between them: with those it waits until each of them has the edits, VTSERVE_PAUSE seconds at most.
 """
+from __future__ import annotations
+
 import os
 import time
 from collections.abc import Callable, Iterable

@@ -1,4 +1,6 @@
 """Published archives in an object store: that of a map, or that of several maps joined. Needs no package."""
+from __future__ import annotations
+
 import hashlib
 import json
 import os

@@ -15,6 +15,7 @@ from ..geometry.wholes import right_handed, wholes_of
 from ..limits import MOST_CHANGES
 from ..progress import with_progress
 from ..shown import shown
+from ..systems import put_in_place
 from .deletions import are_many
 from .ids import ranges
 
@@ -96,7 +97,7 @@ def row_of(number, feature, lines):
 def written(path, features, start):
     """Writes the file, which has what it had until all features are there. Returns how many they are."""
     saved, lines = 0, is_lines(path)
-    with open(regular(path) + ".part", "w", encoding="utf-8") as file:
+    with open(regular(path) + ".part", "w", encoding="utf-8", newline="\n") as file:
         file.write("" if lines else start)
         for number, feature in features:
             file.write(("" if lines else ",\n" if saved else "\n") + row_of(number, feature, lines) + ("\n" if lines else ""))
@@ -104,7 +105,7 @@ def written(path, features, start):
         file.write("" if lines else END)
         file.flush()
         os.fsync(file.fileno())
-    os.replace(path + ".part", path)
+    put_in_place(path + ".part", path)
     return saved
 
 

@@ -157,10 +157,10 @@ class Changes:
         if self.words.overwrite:
             return
         if self.taken:
-            taken = f"{self.taken.total():,} of the ids are taken by other layers: {counted_layers(self.taken)}"
+            taken = f"{sum(self.taken.values()):,} of the ids are taken by other layers: {counted_layers(self.taken)}"
             yield f"{taken}. Give another --first, or --overwrite to replace these features"
         if self.differing:
-            differing = f"{self.differing.total():,} of the ids have other features: {counted_layers(self.differing)}"
+            differing = f"{sum(self.differing.values()):,} of the ids have other features: {counted_layers(self.differing)}"
             yield f"{differing}. `vtmap update` changes them; or give another --first"
 
     def conflicts_told(self):
@@ -252,17 +252,17 @@ class Changes:
 
     def refused_count(self):
         """How many features are refused."""
-        return self.plan.refused + self.refused.total()
+        return self.plan.refused + sum(self.refused.values())
 
     def failed(self):
         """Whether something isn't as it was to be."""
-        return self.refused_count() > 0 or self.conflicts.total() > 0 or len(self.told_conflicts) > 0
+        return self.refused_count() > 0 or sum(self.conflicts.values()) > 0 or len(self.told_conflicts) > 0
 
     def so_far(self):
         """What was sent, as a text."""
         same = sum(kind == SAME for kind in self.kinds.values())
-        line = f"{self.made.total()} taken, {self.refused_count()} refused" + (f", {same} unchanged" if same else "")
-        return line + (f", {self.conflicts.total():,} changed by others meanwhile" if self.conflicts else "")
+        line = f"{sum(self.made.values())} taken, {self.refused_count()} refused" + (f", {same} unchanged" if same else "")
+        return line + (f", {sum(self.conflicts.values()):,} changed by others meanwhile" if self.conflicts else "")
 
     def told(self):
         """What the command did, as a text: an update in features, of which a cut one is one."""
@@ -273,4 +273,4 @@ class Changes:
         line += f", {counts[OWN]:,} left as the map has them" if counts[OWN] else ""
         line += f", {refused:,} refused" if refused else ""
         line += f", {counts[CONFLICT]:,} in conflict" if counts[CONFLICT] else ""
-        return line + (f", {self.conflicts.total():,} changed by others meanwhile" if self.conflicts else "")
+        return line + (f", {sum(self.conflicts.values()):,} changed by others meanwhile" if self.conflicts else "")

@@ -83,7 +83,7 @@ def delete_all(client, found, deleted, anyway):
             print(f"feature {change.number}: {refusal}", flush=True)
         else:
             deleted[found[change.number]["layer"]] += 1
-    return deleted.total() == len(found)
+    return sum(deleted.values()) == len(found)
 
 
 def tell_rest(client, found, deleted):
@@ -93,7 +93,7 @@ def tell_rest(client, found, deleted):
     except (NoAnswer, Stopped):
         status = None
     room = "" if status is None else f"; the journal has {status['journal']['places'] - status['journal']['used']:,} of its sectors free"
-    print(f"{len(found) - deleted.total():,} features are left{room}")
+    print(f"{len(found) - sum(deleted.values()):,} features are left{room}")
 
 
 def work(words):

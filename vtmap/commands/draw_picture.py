@@ -171,4 +171,5 @@ class Picture:
             for dx, dy in [(-1, 0), (1, 0), (0, -1), (0, 1)]:
                 board.text((x + 8 + dx, y - 6 + dy), name, fill="white", font=font)
             board.text((x + 8, y - 6), name, fill="#222222", font=font)
-        return image.quantize(64, method=Image.Quantize.FASTOCTREE, dither=Image.Dither.NONE)
+        # Pillow before 9.1 has the names of methods beside its classes.
+        return image.quantize(64, method=getattr(Image, "Quantize", Image).FASTOCTREE, dither=getattr(Image, "Dither", Image).NONE)

@@ -144,7 +144,9 @@ def work(words):
     for thread in threads:
         thread.start()
     for thread in threads:
-        thread.join()
+        # On Windows nothing interrupts a wait without an end.
+        while thread.is_alive():
+            thread.join(1)
     return max(follower.status for follower in followers)
 
 

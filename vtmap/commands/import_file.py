@@ -12,6 +12,7 @@ from ..files.id_file import IdFile
 from ..limits import MOST_CHANGES
 from ..progress import with_progress
 from ..shown import shown
+from ..systems import without_end
 from .changes import Changes
 from .ids import told_ranges
 from .import_options import MAXZOOM, has_ids
@@ -60,7 +61,7 @@ def base_of(words, client, status):
 
 def base_path(words):
     """The file of what was imported before."""
-    return words.base or (words.ids or words.file.rstrip("/")) + ".base"
+    return words.base or (words.ids or without_end(words.file)) + ".base"
 
 
 def obstacles(words, client, status, changes):

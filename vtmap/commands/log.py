@@ -1,14 +1,16 @@
 """`vtmap log`: who changed what, and when: by the log of `vtmap follow --log`, and nginx's. Needs no package."""
 import argparse
 import json
+import sys
 from collections import Counter, namedtuple
 from datetime import date, datetime
 
 from ..faults import Refused
-from ..files.edit_log import lines_in, lines_of
+from ..files.edit_log import lines_in, lines_of, time_of
 from ..files.missed_edits import Missed
 from ..files.proxy_log import Senders
 from ..shown import shown, shown_json
+from ..systems import is_unicode
 from .differences import named, told_change
 from .ids import ranges, told_ranges
 
@@ -79,7 +81,7 @@ def edits_of(paths, nginx):
         if "missed" in row:
             yield row
             continue
-        seen = datetime.fromisoformat(row["time"])
+        seen = time_of(row)
         sent = senders.of(row["changes"], seen.timestamp())
         time = datetime.fromtimestamp(sent.time).astimezone() if sent else seen.astimezone()
         yield Edit(row["edit"], time, sent.person if sent else NOBODY, row["changes"], row)
@@ -121,8 +123,13 @@ def lines(edit):
 
 def missing(row):
     """The line of edits that the log doesn't have."""
-    time = datetime.fromisoformat(row["time"]).astimezone().strftime("%Y-%m-%d %H:%M:%S")
+    time = time_of(row).astimezone().strftime("%Y-%m-%d %H:%M:%S")
     return f"{time}  the edits {row['missed'][0]:,} to {row['missed'][1]:,} are missing: they were published before they were read"
+
+
+def json_line(row):
+    """A line of JSON, without letters that standard output hasn't got."""
+    return shown_json(row, not is_unicode(sys.stdout))
 
 
 def names_of(words, edit, change):
@@ -184,7 +191,7 @@ def work(words):
     for edit in edits_of(words.log, words.nginx):
         if isinstance(edit, dict):
             if is_told:
-                print(shown_json(edit) if words.json else missing(edit))
+                print(json_line(edit) if words.json else missing(edit))
             continue
         found = wanted(words, edit)
         if found is None:
@@ -193,7 +200,7 @@ def work(words):
         if words.count:
             counts.add(found)
         elif words.json:
-            print(shown_json({**edit.row, "person": edit.person, "changes": found.changes}))
+            print(json_line({**edit.row, "person": edit.person, "changes": found.changes}))
         elif is_told:
             print("\n".join(lines(found)))
     if words.numbers:

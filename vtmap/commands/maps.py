@@ -1,4 +1,6 @@
 """`vtmap maps`: the maps of a machine that serves several. Needs no package."""
+from __future__ import annotations
+
 import argparse
 import re
 

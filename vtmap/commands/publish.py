@@ -12,6 +12,7 @@ from ..client.refusals import STATUSES, WORDS, told
 from ..ending import regular, replaced
 from ..faults import Fault, NoAnswer
 from ..progress import Tiles
+from ..systems import signals_to_end
 from .archive_store import marks_of, store_joined, store_one
 
 ABOUT = {"publish": """Publishes the map of a running `vtserve serve` by steps, so that tiles and edits go on between them.
@@ -203,7 +204,7 @@ def publish(words, client):
             raise KeyboardInterrupt
         publication.is_interrupted = True
 
-    before = {number: signal.signal(number, interrupt) for number in (signal.SIGINT, signal.SIGTERM, signal.SIGHUP)}
+    before = {number: signal.signal(number, interrupt) for number in signals_to_end()}
     try:
         publication.run()
     finally:

@@ -42,7 +42,7 @@ def page_style(client):
     try:
         with open(PAGE, encoding="utf-8") as file:
             return json.load(file)
-    except FileNotFoundError:
+    except OSError:
         return NO_STYLE
 
 

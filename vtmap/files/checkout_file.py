@@ -10,6 +10,7 @@ from collections import Counter, defaultdict, namedtuple
 from ..faults import Refused
 from ..geometry.wholes import wholes_of
 from ..shown import shown
+from ..systems import put_in_place
 from . import geopackage
 
 ZOOMS = ("minzoom", "maxzoom")
@@ -164,7 +165,7 @@ def write(path, wholes, told, types):
     for ending in ("-wal", "-shm"):
         if os.path.exists(path + ending):
             os.remove(path + ending)
-    os.replace(part, path)
+    put_in_place(part, path)
     return len(made)
 
 

@@ -10,6 +10,7 @@ from collections import namedtuple
 
 from ..faults import Fault
 from ..limits import PART, SECTOR
+from ..systems import open_to_read, read_at
 
 FORMAT_MARK, ROOT_MARK = b"VTILEDSK", b"VTROOT01"
 LEAST_SECTORS, MOST_SECTORS = 64, 16777216
@@ -90,7 +91,7 @@ class Disk:
 
     def read(self, sector, count):
         """So many sectors."""
-        return os.pread(self.file, SECTOR * count, SECTOR * sector)
+        return read_at(self.file, SECTOR * count, SECTOR * sector)
 
     def root(self):
         """The live root."""
@@ -149,7 +150,7 @@ def moment_of(path):
     """The map of one moment. Raises `OSError`, or `Damaged` if the file isn't as docs/FORMATS.md has it."""
     if not os.path.isfile(path):
         raise OSError(f"{path} is no file" if os.path.exists(path) else f"there is no file {path}")
-    file, passed, fault = os.open(path, os.O_RDONLY), 0, None
+    file, passed, fault = open_to_read(path), 0, None
     try:
         disk = Disk(file)
         for again in range(TRIES):

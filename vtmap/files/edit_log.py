@@ -160,6 +160,11 @@ class EditLog:
             os.fsync(file.fileno())
 
 
+def time_of(row):
+    """When the edit of a line was seen. Python before 3.11 reads no `Z`."""
+    return datetime.fromisoformat(row["time"].replace("Z", "+00:00"))
+
+
 def last_of(row):
     """The last edit that a line speaks of."""
     return row["edit"] if "edit" in row else row["missed"][1]

@@ -1,8 +1,9 @@
 """Files to which lines of JSON are added, of which a stop leaves the whole lines. Needs no package."""
-import fcntl
 import json
 import os
 from collections.abc import Iterable
+
+from ..systems import lock
 
 
 class LineFile:
@@ -10,11 +11,10 @@ class LineFile:
 
     def __init__(self, path: str, starts: Iterable[str], what: str) -> None:
         self.path = path
-        self.file = open(path, "a+", encoding="utf-8")
-        try:
-            fcntl.flock(self.file, fcntl.LOCK_EX | fcntl.LOCK_NB)
-        except BlockingIOError as fault:
-            raise OSError(f"another import uses {path}") from fault
+        # Lines end as they do in the file, which an editor may have changed: its bytes are counted.
+        self.file = open(path, "a+", encoding="utf-8", newline="\n")
+        if not lock(self.file):
+            raise OSError(f"another import uses {path}")
         self.file.seek(0)
         try:
             text = self.file.read()

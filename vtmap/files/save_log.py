@@ -4,7 +4,6 @@ Each line is JSON. `{"begun": ID, "session": NAME, "groups": ..}` is on the disk
 each edit that was made, and `{"saved": ID, ..}` or `{"undone": ID}`. A save that is only begun was cut short. `{"emptied": [LAYER, KIND], ..}` has what
 a table had that lost its last feature.
 """
-import fcntl
 import json
 import os
 import time
@@ -14,6 +13,7 @@ from typing import Any
 from ..client.edits import Change
 from ..ending import regular, replaced
 from ..faults import Refused
+from ..systems import lock
 
 
 class Unwritable(Refused):
@@ -123,10 +123,8 @@ class SaveLog:
 def locked(path):
     """A file that nobody else can lock meanwhile."""
     file = open(path, "ab")
-    try:
-        fcntl.flock(file, fcntl.LOCK_EX | fcntl.LOCK_NB)
-    except BlockingIOError as fault:
-        raise Refused(f"another `vtmap wfs` uses {path.removesuffix('.lock')}") from fault
+    if not lock(file):
+        raise Refused(f"another `vtmap wfs` uses {path.removesuffix('.lock')}")
     return file
 
 

@@ -13,6 +13,7 @@ from http.server import BaseHTTPRequestHandler, ThreadingHTTPServer
 
 from ..faults import Fault, NoAnswer, Refused, Stopped
 from ..shown import shown_lines
+from ..systems import is_windows
 from . import wfs_texts
 from .ogc_api import Unknown
 from .ogc_texts import JSON
@@ -145,7 +146,7 @@ class Handler(BaseHTTPRequestHandler):
                 if not part:
                     return None
                 parts += part
-        except TimeoutError:
+        except socket.timeout:
             return None
         return bytes(parts)
 
@@ -278,6 +279,8 @@ class Listener(ThreadingHTTPServer):
 
     daemon_threads = True
     request_queue_size = 64
+    # On Windows a second process would get the port that this one has.
+    allow_reuse_address = not is_windows()
 
     def __init__(self, *words):
         super().__init__(*words)

@@ -4,6 +4,8 @@ A shape is a pair of its kind and its lists, as in the member `geometry` of a fe
 list of lines, `polygons` with a list of lists of rings. Points are pairs of floats until `rounded` makes integers of them. The first
 point of a ring isn't repeated at its end.
 """
+from __future__ import annotations
+
 import math
 from collections.abc import Iterable
 

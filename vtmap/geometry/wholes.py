@@ -4,6 +4,8 @@ The pieces of a cut feature have its tags and the tag `whole` with the id of the
 layer LAYER-outline with the same tags. `wholes_of` makes one feature of them: the union of its pieces, without the edges of the cuts.
 Pieces whose tags, layer or zooms have become different since are different features for people, and stay apart.
 """
+from __future__ import annotations
+
 import json
 import math
 from collections import defaultdict, namedtuple

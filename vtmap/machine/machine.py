@@ -1,6 +1,7 @@
 """The maps of this machine: their files and folders, and the units of systemd that serve them. Needs no package."""
+from __future__ import annotations
+
 import os
-import pwd
 import shutil
 import subprocess
 from typing import Any
@@ -8,6 +9,7 @@ from typing import Any
 from ..ending import replaced
 from ..faults import Refused
 from ..limits import SECTOR
+from ..systems import module
 from .map_file import NAME, MapHere, map_of
 from .nginx_files import files_of
 
@@ -33,10 +35,13 @@ class Machine:
 
     def __init__(self, root: str = "/") -> None:
         self.root = root
-        self.owner: pwd.struct_passwd | None = None
+        self.owner: Any = None
+        users: Any = module("pwd")
+        if users is None:
+            raise Refused("the maps of a machine are for Linux with systemd")
         if root == "/":
             try:
-                self.owner = pwd.getpwnam(USER)
+                self.owner = users.getpwnam(USER)
             except KeyError:
                 raise Refused(f"there is no user {USER} on this machine: docs/DEPLOYING.md, Install") from None
 

@@ -1,5 +1,7 @@
 """The file of a map of this machine, /etc/vtserve/maps/NAME: variables for its units, vtserve@NAME and companions.
 Needs no package."""
+from __future__ import annotations
+
 import re
 import shlex
 from typing import NamedTuple
