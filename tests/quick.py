@@ -78,6 +78,7 @@ PARTS = [
     client("wfs-tables"),
     client("outsiders"),
     client("standby"),
+    client("try"),
     client("windows"),
     client("join"),
     client("maps"),

@@ -13,6 +13,7 @@ from .faults import Fault
 DEFAULT_URL = "http://127.0.0.1:8080"
 # Each command with its module, and what it does.
 COMMANDS = {
+    "try": ("try_map", "makes a map of a made-up town on this machine, and opens it in a browser"),
     "import": ("import_options", "puts the features of a file into the map: GeoPackage, Shapefile, GeoJSON, CSV, .."),
     "update": ("import_options", "sends what has changed in a file since its last import; what people changed on the map stays"),
     "checkout": ("checkout", "writes features of the map into a GeoPackage, to edit them in QGIS"),

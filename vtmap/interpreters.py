@@ -5,6 +5,7 @@ import importlib.util
 import os
 import shutil
 import subprocess
+import sys
 from collections.abc import Sequence
 
 from .faults import Refused
@@ -29,16 +30,21 @@ def other(package: str) -> str | None:
     return None
 
 
+def command_of(words: Sequence[str], interpreter: str = sys.executable) -> tuple[list[str], dict[str, str]]:
+    """The line that runs a command of this `vtmap`, in a clone, installed or in one file, and the environment that it needs."""
+    folder = os.path.dirname(os.path.dirname(os.path.abspath(__file__)))
+    places = [folder, *filter(None, os.environ.get("PYTHONPATH", "").split(os.pathsep))]
+    return [interpreter, "-m", "vtmap", *words], {**os.environ, "PYTHONPATH": os.pathsep.join(places)}
+
+
 def look_for(package: str, words: Sequence[str]) -> None:
     """Goes on in an interpreter that has a package, if this one hasn't. Returns if it has, or if none has. `words`: those of the command."""
     if has(package) or os.environ.get(FOUND) == package:
         return
     path = other(package)
-    if path is None:
-        return
-    folder = os.path.dirname(os.path.dirname(os.path.abspath(__file__)))
-    places = [folder, *filter(None, os.environ.get("PYTHONPATH", "").split(os.pathsep))]
-    become([path, "-m", "vtmap", *words], {**os.environ, FOUND: package, "PYTHONPATH": os.pathsep.join(places)})
+    if path is not None:
+        line, environment = command_of(words, path)
+        become(line, {**environment, FOUND: package})
 
 
 def need(package: str, words: Sequence[str]) -> None:

@@ -55,6 +55,7 @@ from takeover import takeover
 from three_ways import three_ways
 from toolbox import toolbox
 from trail import trail
+from tries import tries
 from units import units
 from updates import updates
 from wfs import wfs
@@ -124,6 +125,7 @@ def main():
         "units": units,
         "maps": maps,
         "windows": windows,
+        "try": tries,
     }
     words = sys.argv[2:]
     if not set(words) <= set(parts):

@@ -87,6 +87,7 @@ def helps(office):
         office.cases.show(f"windows: {name} --help", (code, told.startswith(f"usage: vtmap {name} ")), (0, True))
     code, told = office.ran("maps")
     office.cases.show("windows: maps says that it is for Linux", (code, told), (1, "the maps of a machine are for Linux with systemd\r\n"))
+    office.show("try says so too", ["try"], 1, "the server runs on Linux alone", False)
 
 
 def imports(office):

@@ -11,6 +11,7 @@ is Linux's, and GDAL is Debian's.
 import argparse  # noqa: F401
 import builtins
 import concurrent.futures  # noqa: F401
+import ctypes  # noqa: F401
 import errno
 import fcntl
 import gzip  # noqa: F401

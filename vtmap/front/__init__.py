@@ -1,0 +1,1 @@
+"""A front for a try: page, map and gateway behind one port of this machine."""
