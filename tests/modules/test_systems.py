@@ -1,15 +1,19 @@
 """Tests of vtmap/systems.py and of the files that it is for: what Windows does differently, as far as Linux can be made to look like it. The part
 `windows` of tests/clients/run.py runs whole commands so."""
+import ast
 import errno
+import glob
 import io
 import os
 import signal
+import re
 import subprocess
 import sys
 import unittest
 from unittest import mock
 
 import stand
+import vtmap
 from vtmap import systems
 from vtmap.files.id_file import IdFile
 
@@ -104,6 +108,22 @@ class Consoles(unittest.TestCase):
         kinds = {"utf-8": True, "UTF8": True, "utf-16": True, "cp1252": False, "ascii": False}
         self.assertEqual({name: systems.is_unicode(io.TextIOWrapper(io.BytesIO(), encoding=name)) for name in kinds}, kinds)
         self.assertFalse(systems.is_unicode(None))
+
+
+class OldPythons(unittest.TestCase):
+    """What mypy doesn't see of what the oldest Python lacks: syntax, methods of values without a type, and times with a `Z`."""
+
+    LACKS = {r"\.total\(\)": (), r"datetime\.fromisoformat\(": ("edit_log.py",), r"except TimeoutError": (), r"zip\([^\n]*strict=": ()}
+
+    def test_sources(self):
+        paths = glob.glob(os.path.join(stand.TOP, "vtmap", "**", "*.py"), recursive=True)
+        self.assertGreater(len(paths), 90)
+        for path in paths:
+            with open(path, encoding="utf-8") as file:
+                text = file.read()
+            ast.parse(text, path, feature_version=vtmap.OLDEST)
+            for lack, places in self.LACKS.items():
+                self.assertTrue(os.path.basename(path) in places or not re.search(lack, text), f"{path}: {lack}")
 
 
 class Processes(unittest.TestCase):

@@ -10,6 +10,7 @@ from collections import defaultdict, namedtuple
 from datetime import datetime, timezone
 
 from ..client.edits import encoded
+from .edit_log import time_of
 from .proxy_log import SLACK, changes_of, key_of, number_in, parsed
 
 # The numbers of a gap, and the times between which its edits were sent.
@@ -25,7 +26,7 @@ class Request:
 
 def seen_at(row):
     """When the edit of a row was seen, in seconds since 1970."""
-    return datetime.fromisoformat(row["time"]).timestamp()
+    return time_of(row).timestamp()
 
 
 def id_of(change):
