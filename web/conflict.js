@@ -45,11 +45,12 @@ export function conflictOf({ was, theirs, mine }, save, leave) {
         const isMine = now === before, isOpen = now !== own && !isMine && own !== before;
         isOpen || chosen.set(part, values[isMine ? 2 : 1]);
         const shown = values.map(value => value === undefined ? "–" : part === "geometry" ? described(value) : String(value));
-        const cells = shown.map(value => element("td", {}, value));
-        now === own || [1, 2].forEach(at => cells[at].prepend(element("input", {
+        const choice = at => element("input", {
             type: "radio", name, ariaLabel: `${name}, ${heads[at]}: ${shown[at]}`, checked: !isOpen && isMine === (at === 2),
             onchange: () => chosen.set(part, values[at]),
-        })));
+        });
+        // A choice is as large as its cell.
+        const cells = shown.map((value, at) => element("td", {}, now === own || at === 0 ? value : element("label", {}, choice(at), value)));
         return element("tr", { className: now === own ? "" : "differs" }, element("th", { scope: "row" }, name), ...cells);
     });
     const saveChosen = () => {

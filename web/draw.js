@@ -125,6 +125,8 @@ export function drawShape(context, chains, colour, hasHandles) {
     for (const { points, isClosed } of chains.filter(({ points }) => points.length)) {
         const path = new Path2D();
         trace(path, [points], isClosed);
+        // White below it, so that it is seen on each colour of the map.
+        stroke(context, path, "#ffffff", 4);
         context.setLineDash(hasHandles ? [] : [6, 4]);
         stroke(context, path, colour, 2);
         context.setLineDash([]);
@@ -133,6 +135,14 @@ export function drawShape(context, chains, colour, hasHandles) {
         hasHandles && middles(points, isClosed).forEach(({ point }) => dot(context, point, 4, colour + "88", 1));
         (hasHandles || points.length === 1) && points.forEach(point => dot(context, point, 6, colour, 1));
     }
+}
+
+/** Marks the corner of a shape that is chosen. */
+export function drawChosen(context, [x, y]) {
+    context.beginPath();
+    context.arc(x, y, 11, 0, 2 * Math.PI);
+    stroke(context, null, "#ffffff", 5);
+    stroke(context, null, MINE, 2.5);
 }
 
 /** The middle of each segment of a list, with the place that a new point there has in it. */

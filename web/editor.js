@@ -1,11 +1,13 @@
 // What is edited: a draft of one feature, which is saved as a checked edit, and what becomes of it if somebody else was faster.
 import { conflictOf } from "./conflict.js";
-import { MINE, THEIRS, drawShape } from "./draw.js";
+import { MINE, THEIRS, drawChosen, drawShape } from "./draw.js";
 import { formOf } from "./form.js";
-import { button, close, covered, element, open, table, tell } from "./panel.js";
+import { actions, button, close, covered, element, open, table, tell } from "./panel.js";
 import { Neighbours } from "./neighbours.js";
 import { Changed, canonical } from "./server.js";
-import { begun, chainsOf, described, grabbed, isLarge, isWhole, listsOf, pointsOf, remove } from "./shape.js";
+import {
+    REACH, REACH_OF_FINGERS, begun, chainsOf, cornerNear, cornersOf, described, grabbed, isLarge, isWhole, listsOf, pointsOf, remove, removeCorner,
+} from "./shape.js";
 import { isOutline } from "./style.js";
 import { texts } from "./texts.js";
 import { bounds, rounded } from "./world.js";
@@ -16,7 +18,8 @@ const hint = text => element("p", { className: "hint" }, text);
 export class Editor {
     // The draft, or null: the `feature` (null: it is to be deleted) and its `form`; its `id` (null: not known yet), what it `was` (null:
     // nothing), its `pieces` if it is cut, what was `sent` since then, earlier geometries (`undo`), whether it `isNew`, `isDrawn` just now or
-    // `isSent` just now, and `theirs` in a conflict (null: it was deleted). Its `neighbours`, and whether they come `along`.
+    // `isSent` just now, and `theirs` in a conflict (null: it was deleted). Its `neighbours`, and whether they come `along`. The corner of its shape
+    // that is `chosen`: the one that was touched last.
     draft = null;
 
     /** `saved(edit)` is called after each edit. */
@@ -47,8 +50,10 @@ export class Editor {
         const layer = drawn ?? layers[0] ?? { id: "", minzoom: 10, maxzoom: 16 };
         const feature = { layer: layer.id, minzoom: layer.minzoom, maxzoom: layer.maxzoom, geometry: begun(kind), tags: { name: "" } };
         this.draft = { id: null, isNew: true, was: null, sent: [], feature, undo: [], isDrawn: true, neighbours: new Neighbours(this.view, this.server, null) };
-        const more = kind === "points" ? [] : [hint(texts.drawingEnds), button(texts.done, () => this.finish())];
-        open(texts.clickWhere, ...more, button(texts.cancel, () => this.drop()));
+        const more = kind === "points" ? [] : [button(texts.done, () => this.finish()), button(texts.undo, () => this.takeBack())];
+        const how = kind === "points" ? texts.keysOfPoint : `${texts.drawingEnds} ${texts.keysOfPoint}`;
+        open(texts.clickWhere, hint(how), actions(...more, button(texts.cancel, () => this.drop())));
+        this.view.canvas.focus();
     }
 
     /** Adds a point to what is drawn. */
@@ -69,6 +74,7 @@ export class Editor {
         listsOf(this.draft.feature.geometry)[0].points.pop();
         Object.assign(this.draft.added ?? {}, { corner: null });
         this.draft.clicked = null;
+        this.view.redraw();
     }
 
     /** Puts a point to a place, or to a corner there: at once, and again when it is known exactly where that is, if it is still the one of `last`. */
@@ -102,19 +108,24 @@ export class Editor {
     openForm() {
         const { feature, pieces, was, id } = this.draft;
         this.draft.form = formOf(feature, this.layers().map(layer => layer.id).filter(name => !isOutline(name)), !was);
-        const shape = pieces ? texts.cutShape(pieces.length) : `${described(feature.geometry)}. ${texts.shapeHelp}`;
+        const shape = pieces ? texts.cutShape(pieces.length) : `${described(feature.geometry)}. ${texts.shapeHelp} ${texts.keysOfShape}`;
         const large = !pieces && isLarge(feature) ? [hint(texts.tooLarge)] : [];
         const along = element("input", { type: "checkbox", onchange: ({ target }) => this.bring(target.checked) });
         const asked = pieces ? [] : [element("label", { className: "along" }, along, texts.along)];
         open(was ? texts.editOf(feature.layer, id) : texts.newFeature, this.draft.form, hint(shape), ...asked, ...large,
-            button(texts.save, () => this.save()), button(texts.cancel, () => this.drop()));
+            actions(button(texts.save, () => this.save()), button(texts.cancel, () => this.drop()), ...this.buttonsOfShape(pieces)));
         this.uncover(feature);
+    }
+
+    /** What a shape is changed by without a keyboard. */
+    buttonsOfShape(pieces) {
+        return pieces ? [] : [button(texts.undo, () => this.undo()), button(texts.removePoint, () => this.removeChosen())];
     }
 
     ask() {
         const { id, was, pieces } = this.draft, shape = pieces ? texts.pieces(pieces.length) : described(was.geometry);
         open(texts.deletes(was.layer, id), table(Object.entries(was.tags).map(([name, value]) => [name, String(value)])), hint(shape),
-            button(texts.deleteIt, () => this.send(null)), button(texts.cancel, () => this.drop()));
+            actions(button(texts.deleteIt, () => this.send(null)), button(texts.cancel, () => this.drop())));
     }
 
     /** The feature that shape and form say. */
@@ -218,6 +229,7 @@ export class Editor {
         const mine = draft.feature && { ...draft.feature, ...(pieces && theirs ? { geometry: theirs.geometry } : {}) };
         Object.assign(draft, { was: theirs, theirs, sent: [], pieces: pieces && !theirs ? lost(draft.pieces) : pieces });
         open(texts.changedByTwo((was ?? mine).layer, id), ...conflictOf({ was, theirs, mine }, chosen => this.send(chosen), () => this.drop()));
+        tell(theirs ? texts.othersChanged : texts.othersDeleted, true);
         this.uncover(mine ?? was);
     }
 
@@ -269,20 +281,61 @@ export class Editor {
         return done;
     }
 
-    grab(point) {
-        const moves = this.shape && this.change((shape, toScreen) => grabbed(shape, point, toScreen));
+    /** What a drag does that begins at a point of the screen, by a mouse or a finger, or undefined. The corner there is chosen. */
+    grab(point, isTouched = false) {
+        const reach = isTouched ? REACH_OF_FINGERS : REACH;
+        const moves = this.shape && this.change((shape, toScreen) => grabbed(shape, point, toScreen, reach));
         const last = {}, { neighbours } = this.draft ?? {};
+        moves && this.chooseAt(point, reach);
         return moves && ((place, isFree) => this.snap(place, isFree ? null : neighbours.cornerAt(place), moves, last));
+    }
+
+    /** Chooses the corner at a point of the screen. Returns whether there is one. */
+    chooseAt(point, reach = REACH) {
+        const corner = cornerNear(this.shape, point, this.view.toScreen, reach);
+        this.draft.chosen = corner ?? this.draft.chosen;
+        return Boolean(corner);
+    }
+
+    /** Chooses the next corner of the shape, or the one before. Returns its place, its number and how many there are. */
+    choose(by) {
+        const all = cornersOf(this.shape), { chosen } = this.draft, now = all.findIndex(({ list, at }) => list === chosen?.list && at === chosen?.at);
+        const next = now < 0 ? by < 0 ? all.length - 1 : 0 : (now + by + all.length) % all.length;
+        this.draft.chosen = all[next];
+        return { place: all[next].place, number: next + 1, count: all.length };
     }
 
     remove(point) {
         this.shape && this.change((shape, toScreen) => remove(shape, point, toScreen));
     }
 
+    /** Removes the corner at a point of the screen, or else the one that is chosen. */
+    removeAt(point) {
+        this.chooseAt(point);
+        this.removeChosen();
+    }
+
+    /** Removes the corner that is chosen, and says what became of it. */
+    removeChosen() {
+        const { shape, draft: { chosen } } = this, isThere = shape && chosen && listsOf(shape)[chosen.list]?.points.length > chosen.at;
+        const isRemoved = isThere && this.change(() => removeCorner(shape, chosen));
+        this.draft.chosen = isRemoved ? null : chosen;
+        tell(isRemoved ? texts.removed(described(shape)) : isThere ? texts.tooFew : texts.chooseFirst, !isRemoved);
+    }
+
+    /** Takes the last change of the shape back. */
     undo() {
-        if (this.shape && this.draft.undo.length) {
-            this.draft.feature.geometry = JSON.parse(this.draft.undo.pop());
+        const now = JSON.stringify(this.shape), { undo = [] } = this.shape ? this.draft : {};
+        // A corner that was touched and not moved is no change.
+        while (undo.at(-1) === now) {
+            undo.pop();
         }
+        tell(undo.length ? texts.takenBack : texts.nothingToUndo, !undo.length);
+        if (undo.length) {
+            this.draft.feature.geometry = JSON.parse(undo.pop());
+            this.draft.chosen = null;
+        }
+        this.view.redraw();
     }
 
     /** The neighbours that come along, as they will be. If one would lose its shape, saving says so. */
@@ -301,5 +354,7 @@ export class Editor {
         theirs && !pieces && drawShape(context, onScreen(theirs), THEIRS, false);
         this.others.forEach(other => drawShape(context, onScreen(other.feature), THEIRS, false));
         feature && !pieces && drawShape(context, onScreen(feature), MINE, theirs === undefined);
+        const { list, at } = this.shape && this.draft.chosen || {}, place = list === undefined ? null : listsOf(this.shape)[list]?.points[at];
+        place && drawChosen(context, this.view.toScreen(place));
     }
 }

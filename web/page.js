@@ -1,6 +1,8 @@
 // The page: what is selected, and how the parts of this folder work together.
 import { Editor } from "./editor.js";
-import { button, byId, close, covered, element, open, table, tell } from "./panel.js";
+import { Here } from "./here.js";
+import { Keys } from "./keys.js";
+import { actions, button, byId, close, covered, element, open, table, tell } from "./panel.js";
 import { publishedBox } from "./place.js";
 import { search, titleOf } from "./search.js";
 import { Server } from "./server.js";
@@ -15,7 +17,7 @@ const BETWEEN_LOOKS = { editor: 4, viewer: 30 };
 // How many of the features that are found are listed.
 const MAX_FOUND = 50;
 const server = new Server(new URL("../", location.href));
-let style, view, editor, layers;
+let style, view, editor, keys, here, layers;
 // Why this machine may not edit, as `Server.status` says it, or undefined; whether the first look is over; whether the last one got no answer.
 let refused, isBegun = false, isAway = false;
 // The next look.
@@ -23,29 +25,34 @@ let next;
 // The feature that is selected, as a tile has it, and those that clicks at the same place have selected before.
 let selected = null, clicked = { at: [0, 0], ids: [] };
 
-/** How well a point of the screen meets a feature: points before lines before areas, small areas before large ones; Infinity if it doesn't. */
-function rank(point, { kind, chains, tags }) {
+/**
+ * How well a point of the screen meets a feature: points before lines before areas, small areas before large ones; Infinity if it doesn't. A finger
+ * meets what is `wide` times as far away as a mouse does.
+ */
+function rank(point, { kind, chains, tags }, wide) {
     if (kind === "polygons") {
         const [west, north, east, south] = bounds(chains.flat());
         return !isInside(point, chains) ? Infinity : "whole" in tags ? 1e15 : 20 + (east - west) * (south - north);
     }
     const far = Math.min(...chains.flatMap(chain => chain.map((place, at) => distance(point, chain[Math.max(at - 1, 0)], place))));
-    return kind === "points" ? far < 11 ? far / 11 : Infinity : far < 6 ? 10 + far : Infinity;
+    return kind === "points" ? far < 11 * wide ? far / 11 : Infinity : far < 6 * wide ? 10 + far : Infinity;
 }
 
 /** Selects a feature at a point of the screen, the next one if one there is selected already. */
-function select(point, isFree) {
+function select(point, isFree = false, isTouched = false) {
     if (editor.draft) {
         editor.draft.isDrawn && editor.add(view.toWorld(point), isFree);
         view.redraw();
         return;
     }
-    const found = view.near(point).map(feature => ({ ...feature, id: feature.tags.whole ?? feature.id, own: feature.id, rank: rank(point, feature) }));
+    const wide = isTouched ? 2 : 1;
+    const found = view.near(point).map(feature => ({ ...feature, id: feature.tags.whole ?? feature.id, own: feature.id, rank: rank(point, feature, wide) }));
     const hit = found.filter(({ rank }) => rank < Infinity).sort((one, other) => one.rank - other.rank);
     const before = Math.hypot(point[0] - clicked.at[0], point[1] - clicked.at[1]) < 4 ? clicked.ids : [];
     selected = hit.find(({ id }) => !before.includes(id)) ?? hit[0] ?? null;
     clicked = { at: point, ids: before.includes(selected?.id) ? [selected.id] : [...before, selected?.id] };
     selected ? show(selected) : close();
+    selected || keys.areUsed && tell(texts.nothingHere);
     view.redraw();
 }
 
@@ -53,8 +60,14 @@ function select(point, isFree) {
 function show(feature) {
     const { whole, ...tags } = feature.tags, parts = [table(Object.entries(tags).map(([name, value]) => [name, String(value)]))];
     whole === undefined || parts.push(element("p", { className: "hint" }, texts.piece));
-    refused || parts.push(button(texts.edit, () => editor.begin(feature, false)), button(texts.delete, () => editor.begin(feature, true)));
-    open(`${plain(feature.layer)} ${feature.id}`, ...parts);
+    const edits = refused ? [] : [button(texts.edit, () => editor.begin(feature, false)), button(texts.delete, () => editor.begin(feature, true))];
+    open(`${plain(feature.layer)} ${feature.id}`, ...parts, actions(...edits, button(texts.close, leave)));
+}
+
+/** Closes the panel of what is selected. */
+function leave() {
+    close();
+    view.redraw();
 }
 
 /** Goes to a feature that was found, at a zoom that shows it, and selects it. */
@@ -76,9 +89,11 @@ async function find(text) {
     const found = await search(refused ? null : server, view, text), more = found.length - MAX_FOUND;
     if (found.length > 1) {
         const rows = found.slice(0, MAX_FOUND).map(feature => Object.assign(button(titleOf(feature, text), () => goTo(feature)), { className: "found" }));
-        open(texts.found(found.length), ...rows, ...(more > 0 ? [element("p", { className: "hint" }, texts.more(more))] : []));
+        const rest = more > 0 ? [element("p", { className: "hint" }, texts.more(more))] : [];
+        open(texts.found(found.length), ...rows, ...rest, actions(button(texts.close, leave)));
     } else {
-        found.length ? goTo(found[0]) : tell(texts.nothingHas(text) + (!refused && /^\d+$/.test(text) ? texts.noId : ""), true);
+        const none = text ? texts.nothingHas(text) + (!refused && /^\d+$/.test(text) ? texts.noId : "") : texts.nothingInView;
+        found.length ? goTo(found[0]) : tell(none, true);
     }
 }
 
@@ -102,7 +117,11 @@ async function showEdit(edit) {
         view.backdrop.isHidden = !isShown;
         view.redraw();
     };
-    byId("legend").lastElementChild.replaceChildren(...rows, ...(view.backdrop ? [row(!view.backdrop.isHidden, backdrop, ` ${texts.backdrop}`)] : []));
+    const legend = byId("legend").lastElementChild, all = [...rows, ...(view.backdrop ? [row(!view.backdrop.isHidden, backdrop, ` ${texts.backdrop}`)] : [])];
+    // A row that has the focus keeps it.
+    const focused = [...legend.querySelectorAll("input")].indexOf(document.activeElement);
+    legend.replaceChildren(...all);
+    all[focused]?.firstElementChild.focus();
 }
 
 /** Says what a look has seen. */
@@ -137,6 +156,8 @@ function translate() {
 function listen() {
     byId("nearer").onclick = () => view.zoomBy(1);
     byId("farther").onclick = () => view.zoomBy(-1);
+    byId("here").hidden = !Here.isPossible;
+    byId("here").onclick = () => here.go().then(metres => tell(texts.hereWithin(metres)), fault => tell(fault.message, true));
     byId("adding").onclick = ({ target }) => target.value && !editor.hasChanges && editor.draw(target.value);
     byId("search").onsubmit = event => {
         event.preventDefault();
@@ -147,12 +168,12 @@ function listen() {
         event.preventDefault();
         editor.remove([event.offsetX, event.offsetY]);
     };
-    addEventListener("keydown", ({ key, ctrlKey, target }) => {
-        const { isDrawn } = editor.draft ?? {};
-        key === "Enter" && editor.finish();
+    addEventListener("keydown", ({ key, ctrlKey, metaKey, target }) => {
+        const { isDrawn } = editor.draft ?? {}, isText = target.matches("input, textarea");
+        key === "Enter" && !target.matches("button, input, textarea, select, summary") && editor.finish();
         key === "Escape" && !editor.hasChanges && editor.drop();
-        key === "Backspace" && isDrawn && !target.matches("input, textarea") && editor.takeBack();
-        key === "z" && ctrlKey && !target.matches("input, textarea") && editor.undo();
+        key === "Backspace" && isDrawn && !isText && editor.takeBack();
+        key === "z" && (ctrlKey || metaKey) && !isText && (isDrawn ? editor.takeBack() : editor.draft && editor.undo());
         view.redraw();
     });
     byId("login").onclick = () => logIn().catch(fault => tell(fault.message, true));
@@ -209,11 +230,18 @@ async function start() {
     translate();
     style = new Style(await (await fetch("style.json")).json());
     view = new View(byId("map"), server, style, {
-        select, grab: point => editor.grab(point), over: context => editor.over(context),
+        select, grab: (point, isTouched) => editor.grab(point, isTouched),
+        over: context => {
+            here.over(context);
+            editor.over(context);
+            keys.over(context);
+        },
         failed: fault => isAway || tell(texts.noTile(fault.message), true),
     });
     view.isSelected = ({ id, tags }) => !editor.draft && (tags.whole ?? id) === selected?.id && !byId("panel").hidden;
+    here = new Here(view);
     editor = new Editor(view, server, () => layers, showEdit);
+    keys = new Keys(view, editor, select);
     Object.assign(byId("credit"), { textContent: style.backdrop?.credit ?? "", hidden: !style.backdrop?.credit });
     listen();
     await watch();

@@ -8,7 +8,7 @@ const hasText = (text, name, value) => (text.includes("=") ? `${name}=${value}` 
 
 /** The name of a feature that is found: its tag that has the text, or else its name. */
 export function titleOf({ layer, id, tags }, text) {
-    const { whole, ...own } = tags, [, value] = Object.entries(own).find(pair => hasText(text, ...pair)) ?? [];
+    const { whole, ...own } = tags, [, value] = text ? Object.entries(own).find(pair => hasText(text, ...pair)) ?? [] : [];
     return `${plain(layer)} ${id}` + (value ?? own.name ? `: ${value ?? own.name}` : "");
 }
 
@@ -20,14 +20,14 @@ async function byId(server, text) {
 }
 
 /**
- * The features that a text says, as tiles have them, each with its `box`; the one of an id also with its zooms. Who may not edit has no
- * `server` to ask: the browser would want a password.
+ * The features that a text says, as tiles have them, each with its `box`; the one of an id also with its zooms. No text says all in view. Who may
+ * not edit has no `server` to ask: the browser would want a password.
  */
 export async function search(server, view, text) {
     const exact = await byId(server, text);
     const inView = view.features().filter(({ id, tags }) => {
         const { whole, ...own } = tags;
-        return id !== exact?.id && (String(id) === text || Object.entries(own).some(pair => hasText(text, ...pair)));
+        return id !== exact?.id && (!text || String(id) === text || Object.entries(own).some(pair => hasText(text, ...pair)));
     });
     return exact ? [exact, ...inView] : inView;
 }

@@ -3,8 +3,8 @@ import { middles } from "./draw.js";
 import { texts } from "./texts.js";
 import { bounds, rounded } from "./world.js";
 
-// Pixels within which the mouse meets a handle.
-const REACH = 9;
+// Pixels within which the mouse meets a handle, and a finger.
+export const REACH = 9, REACH_OF_FINGERS = 22;
 const LEAST = { points: 1, lines: 2, polygons: 3 };
 
 export const kindOf = geometry => Object.keys(geometry)[0];
@@ -32,32 +32,44 @@ export function described(geometry) {
     return kind === "points" ? shown : `${shown}, ${texts.count.points(pointsOf(geometry).length)}`;
 }
 
-const finder = (point, toScreen) => place => Math.hypot(...toScreen(place).map((part, axis) => part - point[axis])) <= REACH;
+/** The corners of a geometry in their order: of each its place in the world, its list and where it is in that. */
+export const cornersOf = geometry => listsOf(geometry).flatMap(({ points }, list) => points.map((place, at) => ({ place, list, at })));
+
+/** That of some places with a `place` each which is nearest to a point of the screen, within so many pixels, or undefined. */
+function nearest(found, point, toScreen, reach) {
+    const far = ({ place }) => Math.hypot(...toScreen(place).map((part, axis) => part - point[axis]));
+    const near = found.map(one => ({ one, far: far(one) })).filter(({ far }) => far <= reach);
+    return near.length ? near.reduce((best, other) => other.far < best.far ? other : best).one : undefined;
+}
+
+/** The corner of a geometry at a point of the screen, or undefined. */
+export const cornerNear = (geometry, point, toScreen, reach = REACH) => nearest(cornersOf(geometry), point, toScreen, reach);
 
 /** What a drag that begins at a point of the screen does: it moves the point there, or adds one. A function of the place, or undefined. */
-export function grabbed(geometry, point, toScreen) {
-    const isNear = finder(point, toScreen), lists = listsOf(geometry);
-    for (const { points } of lists) {
-        const at = points.findIndex(isNear);
-        if (at >= 0) {
-            return place => points[at] = rounded(place);
-        }
+export function grabbed(geometry, point, toScreen, reach = REACH) {
+    const lists = listsOf(geometry), corner = cornerNear(geometry, point, toScreen, reach);
+    if (corner) {
+        return place => lists[corner.list].points[corner.at] = rounded(place);
     }
-    for (const { points, isClosed } of geometry.points ? [] : lists) {
-        const middle = middles(points, isClosed).find(({ point }) => isNear(point));
-        if (middle) {
-            points.splice(middle.at, 0, rounded(middle.point));
-            return place => points[middle.at] = rounded(place);
-        }
+    const edges = geometry.points ? [] : lists.flatMap(({ points, isClosed }) => middles(points, isClosed).map(({ at, point }) => ({ place: point, points, at })));
+    const middle = nearest(edges, point, toScreen, reach);
+    if (middle) {
+        middle.points.splice(middle.at, 0, rounded(middle.place));
+        return place => middle.points[middle.at] = rounded(place);
     }
+}
+
+/** Removes a corner, if enough are left. Returns whether they are. */
+export function removeCorner(geometry, { list, at }) {
+    const { points } = listsOf(geometry)[list], areEnough = points.length > LEAST[kindOf(geometry)];
+    areEnough && points.splice(at, 1);
+    return areEnough;
 }
 
 /** Removes the point at a point of the screen, if enough are left. */
 export function remove(geometry, point, toScreen) {
-    for (const { points } of listsOf(geometry)) {
-        const at = points.findIndex(finder(point, toScreen));
-        at >= 0 && points.length > LEAST[kindOf(geometry)] && points.splice(at, 1);
-    }
+    const corner = cornerNear(geometry, point, toScreen);
+    corner && removeCorner(geometry, corner);
 }
 
 /**

@@ -8,6 +8,9 @@
 // zoom 15; `name` is the tag that is written beside the feature, from the zoom `from` on. If the rule of "*" has `colours` (as #a1b2c3) in
 // place of these, each of its layers gets the next of them, in the order of their names; an area lets what is below it show.
 //
+// So that people see it who see little, what a rule draws has a contrast of 3 with what may lie below it: the background, and the areas of the rules
+// before it. A line has it by its own colour or by its casing, an area by its edge (tests/page/contrast.test.js).
+//
 // The import cuts large polygons: a piece has the tag `whole`, and the outlines are lines of the layer LAYER-outline. So a piece has no
 // edge, and the lines of LAYER-outline are drawn as edges of LAYER.
 const OUTLINE = "-outline";

@@ -6,10 +6,16 @@ const some = (count, one, many) => `${count} ${count === 1 ? one : many}`;
 
 const EN = {
     title: "Map", map: "The map", zoomIn: "Zoom in", zoomOut: "Zoom out", logIn: "Log in",
+    here: "Where I am", hereWithin: metres => `here, within ${some(metres, "metre", "metres")}`,
+    hereRefused: "the browser doesn't tell the page where you are: allow it in its settings", hereUnknown: "the browser doesn't know where you are",
     newPoint: "New point", newLine: "New line", newArea: "New area",
     search: "Search", searchFor: "Id, or text in view", find: "Find", layers: "Layers", backdrop: "Backdrop",
 
-    edit: "Edit", delete: "Delete", save: "Save", cancel: "Cancel", done: "Done",
+    keys: "Arrows move the map, with Shift a little; plus and minus zoom. Enter selects what is at the cross in the middle. Find without a text lists what "
+        + "is in view.",
+    nothingHere: "nothing is at the cross", nothingInView: "nothing is in view",
+
+    edit: "Edit", delete: "Delete", save: "Save", cancel: "Cancel", done: "Done", close: "Close", undo: "Undo", removePoint: "Remove point",
     piece: "A large feature, which the import cut into pieces.",
     found: count => `${count} found`, more: count => `and ${count} more`,
     nothingHas: text => `nothing in view has "${text}"`, noId: ", and no feature has this id",
@@ -25,6 +31,13 @@ const EN = {
     editOf: (layer, id) => `Edit ${layer} ${id}`, newFeature: "New feature", deleteIt: "Delete it", deletes: (layer, id) => `Delete ${layer} ${id}?`,
     shapeHelp: "Drag a point to move it, or a small one to add it; a right click removes it, Ctrl+Z undoes. A point snaps to a neighbour's, but not "
         + "with Alt.",
+    keysOfPoint: "With the keyboard: arrows on the map, the space bar adds a point at the cross.",
+    keysOfShape: "With the keyboard, on the map: Page Down goes to the next point, the space bar takes it, arrows move it, the space bar puts it down, Delete "
+        + "removes it.",
+    held: "the point is taken: arrows move it, the space bar puts it down, Escape puts it back", noCorner: "no point is at the cross: Page Down goes to one",
+    putDown: "the point is put down", takenBack: "taken back", nothingToUndo: "there is nothing to undo",
+    cornerOf: (number, count) => `point ${number} of ${count}`, removed: shape => `the point is removed: ${shape}`,
+    tooFew: "the point stays: too few would be left", chooseFirst: "touch the point first that is to go",
     cutShape: count => `The import cut it into ${count} pieces. Its shape can be changed by a desktop GIS (vtmap checkout).`,
     pieces: count => `${count} pieces`,
     tooLarge: "MapLibre draws it wrong: it is larger than a tile of its last zoom. The import cuts such features.",
@@ -57,10 +70,17 @@ const EN = {
 
 const DE = {
     title: "Karte", map: "Die Karte", zoomIn: "Vergrößern", zoomOut: "Verkleinern", logIn: "Anmelden",
+    here: "Wo ich bin", hereWithin: metres => `hier, auf ${some(metres, "Meter", "Meter")} genau`,
+    hereRefused: "der Browser sagt der Seite nicht, wo du bist: in seinen Einstellungen erlauben", hereUnknown: "der Browser weiß nicht, wo du bist",
     newPoint: "Neuer Punkt", newLine: "Neue Linie", newArea: "Neue Fläche",
     search: "Suche", searchFor: "Nummer, oder Text im Bild", find: "Suchen", layers: "Ebenen", backdrop: "Hintergrund",
 
-    edit: "Bearbeiten", delete: "Löschen", save: "Speichern", cancel: "Abbrechen", done: "Fertig",
+    keys: "Pfeiltasten bewegen die Karte, mit Umschalt ein wenig; Plus und Minus zoomen. Enter wählt aus, was am Kreuz in der Mitte ist. Suchen ohne Text "
+        + "zählt auf, was im Bild ist.",
+    nothingHere: "am Kreuz ist nichts", nothingInView: "im Bild ist nichts",
+
+    edit: "Bearbeiten", delete: "Löschen", save: "Speichern", cancel: "Abbrechen", done: "Fertig", close: "Schließen", undo: "Zurücknehmen",
+    removePoint: "Punkt entfernen",
     piece: "Ein großes Objekt, das der Import in Stücke geteilt hat.",
     found: count => `${count} gefunden`, more: count => `und ${count} weitere`,
     nothingHas: text => `nichts im Bild hat „${text}“`, noId: ", und kein Objekt hat diese Nummer",
@@ -76,6 +96,14 @@ const DE = {
     editOf: (layer, id) => `${layer} ${id} bearbeiten`, newFeature: "Neues Objekt", deleteIt: "Wirklich löschen", deletes: (layer, id) => `${layer} ${id} löschen?`,
     shapeHelp: "Einen Punkt ziehen verschiebt ihn, einen kleinen ziehen fügt ihn hinzu; ein Rechtsklick entfernt ihn, Strg+Z nimmt zurück. Ein Punkt "
         + "rastet auf dem eines Nachbarn ein, mit Alt nicht.",
+    keysOfPoint: "Mit der Tastatur: Pfeiltasten auf der Karte, die Leertaste setzt einen Punkt am Kreuz.",
+    keysOfShape: "Mit der Tastatur, auf der Karte: Bild ab geht zum nächsten Punkt, die Leertaste nimmt ihn, Pfeiltasten bewegen ihn, die Leertaste legt ihn "
+        + "ab, Entf entfernt ihn.",
+    held: "der Punkt ist gefasst: Pfeiltasten bewegen ihn, die Leertaste legt ihn ab, Esc legt ihn zurück",
+    noCorner: "am Kreuz ist kein Punkt: Bild ab geht zu einem",
+    putDown: "der Punkt ist abgelegt", takenBack: "zurückgenommen", nothingToUndo: "es gibt nichts zurückzunehmen",
+    cornerOf: (number, count) => `Punkt ${number} von ${count}`, removed: shape => `der Punkt ist entfernt: ${shape}`,
+    tooFew: "der Punkt bleibt: es wären zu wenige", chooseFirst: "erst den Punkt berühren, der weg soll",
     cutShape: count => `Der Import hat es in ${count} Stücke geteilt. Seine Form lässt sich in einem GIS ändern (vtmap checkout).`,
     pieces: count => some(count, "Stück", "Stücke"),
     tooLarge: "MapLibre zeichnet es falsch: es ist größer als eine Kachel seiner letzten Zoomstufe. Der Import teilt solche Objekte.",

@@ -26,7 +26,10 @@ function isTouched(name, { layers }, changes) {
 }
 
 export class View {
-    /** `hooks`: what a click does (`select`), what a drag moves (`grab`), what is drawn above (`over`), and what reports a fault (`failed`). */
+    /**
+     * `hooks`: what a click does (`select`), what a drag moves (`grab`), what is drawn above (`over`), and what reports a fault (`failed`). The first two
+     * are told whether a finger touches the screen, which is less exact than a mouse.
+     */
     constructor(canvas, server, style, hooks) {
         Object.assign(this, { canvas, server, style, hooks, context: canvas.getContext("2d"), centre: [WORLD / 2, WORLD / 2], zoom: 1 });
         // The tiles by their names: the `edit` of which each is, its `tag`, its `layers`, what is `drawn` of them, when it was `asked` for, and the
@@ -271,7 +274,7 @@ export class View {
     }
 
     listen() {
-        const place = event => [event.offsetX, event.offsetY];
+        const place = event => [event.offsetX, event.offsetY], isTouched = event => event.pointerType === "touch";
         // What one finger, or the mouse, drags, and where each finger is.
         let drag = null;
         const fingers = new Map(), on = (name, action) => this.canvas.addEventListener(name, action);
@@ -280,7 +283,8 @@ export class View {
             fingers.set(event.pointerId, place(event));
             // With a second finger nothing is dragged any more: two of them zoom.
             drag = fingers.size > 1 ? null : {
-                from: place(event), last: place(event), moves: event.button === 0 && this.hooks.grab(place(event)), isClick: event.button === 0,
+                from: place(event), last: place(event), isClick: event.button === 0,
+                moves: event.button === 0 && this.hooks.grab(place(event), isTouched(event)),
             };
         });
         on("pointermove", event => {
@@ -301,7 +305,7 @@ export class View {
             drag = null;
         };
         on("pointerup", event => {
-            drag?.isClick && this.hooks.select(place(event), event.altKey);
+            drag?.isClick && this.hooks.select(place(event), event.altKey, isTouched(event));
             lifted(event);
         });
         on("lostpointercapture", lifted);

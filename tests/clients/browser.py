@@ -11,6 +11,10 @@ import time
 
 # The size of its window in pixels.
 WIDE, HIGH = 1000, 640
+# The numbers of keys that write nothing.
+KEYS = {"Backspace": 8, "Tab": 9, "Enter": 13, "Escape": 27, " ": 32, "PageUp": 33, "PageDown": 34, "ArrowLeft": 37, "ArrowUp": 38, "ArrowRight": 39,
+        "ArrowDown": 40, "Delete": 46}
+SHIFT, CONTROL = 8, 2
 
 
 class Broken(Exception):
@@ -147,8 +151,13 @@ class Page:
         self.ask("Input.insertText", text=text)
 
     def key(self, key, code=0, modifiers=0):
-        for kind in ("keyDown", "keyUp"):
-            self.ask("Input.dispatchKeyEvent", type=kind, key=key, windowsVirtualKeyCode=code, modifiers=modifiers)
+        """Presses a key and lets it go, with others held: 1 is Alt."""
+        code = code or KEYS.get(key) or ord(key.upper())
+        text = "\r" if key == "Enter" else key if len(key) == 1 and not modifiers & ~SHIFT else ""
+        name = "Space" if key == " " else key if len(key) > 1 else f"Key{key.upper()}" if key.isalpha() else ""
+        for kind in ("keyDown" if text else "rawKeyDown", "keyUp"):
+            more = {"text": text} if kind == "keyDown" else {}
+            self.ask("Input.dispatchKeyEvent", type=kind, key=key, code=name, windowsVirtualKeyCode=code, modifiers=modifiers, **more)
 
     def text(self, selector):
         """The text of an element, or None."""

@@ -37,6 +37,9 @@ def parcel(column, row):
     return [[west, north], [west + SIDE, north], [west + SIDE, north + SIDE], [west, north + SIDE]]
 
 
+# The colour of the first layer that the style doesn't name.
+with open(os.path.join(PAGE, "style.json"), encoding="utf-8") as _file:
+    FIRST_COLOUR = json.load(_file)["rules"][-1]["colours"][0]
 # The features of the map by their ids.
 FEATURES = {
     1: ("parcel", {"polygons": [[parcel(-1, -1)]]}, {"name": "Smith", "use": "garden"}),
@@ -405,12 +408,12 @@ class Tools(People):
 
     def closed(self, made, images):
         self.show("without its host in nginx.conf the browser doesn't ask for a backdrop", images.asked, [])
-        self.show("and the map is there", self.sees(made, WIDE / 2 + 180, HIGH / 2 + 60, numbers("#4e79a7")), True)
+        self.show("and the map is there", self.sees(made, WIDE / 2 + 180, HIGH / 2 + 60, numbers(FIRST_COLOUR)), True)
 
     def backed(self, made, images):
         below, line = (WIDE / 2 + 180, HIGH / 2 + 180), (WIDE / 2 + 180, HIGH / 2 + 60)
         self.show("images lie below the map, those of the last zoom", self.sees(made, *below, [17, 200, 90]), True)
-        self.show("and the map above them", self.sees(made, *line, numbers("#4e79a7")), True)
+        self.show("and the map above them", self.sees(made, *line, numbers(FIRST_COLOUR)), True)
         self.show("and no more of them than the screen needs", len(images.asked) <= 20 or images.asked, True)
         self.show("with whose they are", made.text("#credit"), "Images by somebody")
         self.keep(made, "page-backdrop.png")

@@ -605,7 +605,7 @@ class People:
             self.drawn(made)
             self.show("a machine that may not edit reads why", made.text("#told"), "view only: this machine may not edit the map")
             made.click(*self.place(made, 453))
-            self.show("and sees tags, without buttons", made.text("#panel").split("\n"), ["place 453", "name\tOlder School"])
+            self.show("and sees tags, without buttons to edit", made.text("#panel").split("\n"), ["place 453", "name\tOlder School", "Close"])
 
     def passwords(self, nginx):
         """A machine that may edit with a password only: the browser asks for it only after a click on the button."""
@@ -627,7 +627,7 @@ class People:
             self.show("with passwords, who only looks is asked for none", made.text("#told"), "view only: log in to edit the map")
             self.drawn(made)
             made.click(*self.place(made, 453))
-            self.show("and sees tags, without buttons to edit", made.text("#panel").split("\n"), ["place 453", "name\tOlder School"])
+            self.show("and sees tags, without buttons to edit", made.text("#panel").split("\n"), ["place 453", "name\tOlder School", "Close"])
             # Here the browser learns the password, as from its dialog.
             self.browser.open(front.url.replace("//", "//ann:secret@") + "/admin/status")
             made.press("Log in")

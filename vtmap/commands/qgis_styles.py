@@ -13,7 +13,7 @@ PAGE = os.path.join(os.path.dirname(os.path.abspath(__file__)), "..", "..", "web
 NO_STYLE = {"background": "#a9cfe3", "rules": []}
 WHOLE = '"whole" IS NULL'
 # Colours of the layers that no rule names, if the page's style doesn't say them. An area lets what is below it show.
-COLOURS = ["#4e79a7", "#e15759", "#59a14f", "#f28e2b", "#b07aa1", "#9c755f", "#3b9c9c", "#d4a017", "#d37295", "#6b6b6b"]
+COLOURS = ["#2f5f8f", "#b3262b", "#2e7031", "#9a4a00", "#7a3b8c", "#6b4a33", "#0d6b6b", "#735a00", "#a02c66", "#4a4a4a"]
 SEEN_THROUGH = 110
 
 STYLE = """
