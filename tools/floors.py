@@ -19,7 +19,7 @@ ROOT = Path(__file__).resolve().parents[1]
 DRAWING = ROOT / "docs" / "pictures" / "crates.svg"
 WIDTH, BOX, HEIGHT, GAP, FLOOR = 1180, 112, 40, 10, 82
 STYLE = (
-    "text{font:12px sans-serif;text-anchor:middle;fill:#222}.n{font-size:10px;fill:#555}"
+    "text{font:11px sans-serif;text-anchor:middle;fill:#222}.n{font-size:10px;fill:#555}"
     "rect{fill:#eef3f8;stroke:#5b7fa3}path{fill:none;stroke:#9db3c8}"
 )
 
