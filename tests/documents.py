@@ -2,6 +2,7 @@
 """Runs the commands of README.md and of docs/HTTP.md, COMMANDS.md, DEPLOYING.md and OFFICE.md, and compares what they print with what the page says.
 
     python3 tests/documents.py [PROGRAM] [--page PAGE] [--show]    PROGRAM is crates/vtserve/out/vtserve
+    python3 tests/documents.py --lists                             the pages' own lists, words, links and drawing alone (page_lists.py)
 
 A command is a line `$ COMMAND` of a block that begins with three backquotes and `console`; it continues over lines that end in a
 backslash, and to the end of a here-document. The lines below it are its output, standard error included. `...` alone on a line matches
@@ -12,7 +13,7 @@ The commands of a page run in one bash, in order, in a fresh folder with copies 
 crates/vtserve/stdin, as in a clone, with PROGRAM in crates/vtserve/out/ and on the PATH, and /usr/sbin for pages that root reads. Each page has its own network, processes, /etc, /usr/local and /var/lib
 (`unshare` and an overlay, so this needs root on Linux): ports and paths are as written, and nothing of the machine changes. Prints
 each difference and the counts, and ends with 1 if there is a difference. --show prints all that the commands print. Without --page it
-also sees that the page and OFFICE.md have the reasons of refusals of vtmap/client/refusals.py.
+also checks the lists, and that the page and OFFICE.md have the reasons of refusals of vtmap/client/refusals.py.
 """
 import argparse
 import os
@@ -24,6 +25,8 @@ import subprocess
 import sys
 import tempfile
 import time
+
+import page_lists
 
 HERE = os.path.dirname(os.path.abspath(__file__))
 TOP = os.path.dirname(HERE)
@@ -169,9 +172,12 @@ def main():
     parser.add_argument("program", nargs="?", default=os.path.join(TOP, "crates", "vtserve", "out", "vtserve"))
     parser.add_argument("--page", action="append", help="a page to run (all)")
     parser.add_argument("--show", action="store_true", help="print all that the commands print")
+    parser.add_argument("--lists", action="store_true", help="check what the pages list, and run nothing")
     parser.add_argument("--inside", action="store_true", help=argparse.SUPPRESS)
     words = parser.parse_args()
     program = os.path.abspath(words.program)
+    if words.lists:
+        return 1 if page_lists.check() else 0
     if words.inside:
         return 1 if run_page(words.page[0], program, words.show) else 0
     differ = 0
@@ -180,6 +186,7 @@ def main():
         again = [sys.executable, os.path.abspath(__file__), program, "--page", page, "--inside", *(["--show"] if words.show else [])]
         differ += subprocess.run([*apart, *again], check=False).returncode != 0
     if not words.page:
+        differ += page_lists.check()
         differ += subprocess.run([sys.executable, "-m", "vtmap.client.refusals", "check"], cwd=TOP, check=False).returncode != 0
     print(f"{len(words.page or PAGES)} pages, {differ} differ")
     return 1 if differ else 0

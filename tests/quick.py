@@ -93,6 +93,7 @@ PARTS = [
     Part("page", [PYTHON, "tests/page/run.py"], ("node",)),
     Part("refusals", [PYTHON, "-m", "vtmap.client.refusals", "check"]),
     Part("promises", [PYTHON, "tests/promises.py"]),
+    Part("lists", [PYTHON, "tests/documents.py", "--lists"]),
     Part("mutants", [PYTHON, "bench/mutants/try.py", "--fits"]),
     Part("nginx.conf", ["nginx", "-t", "-q", "-p", SCRATCH, "-c", os.path.join(TOP, "docs", "nginx.conf")], ("nginx",)),
 ]
