@@ -2,6 +2,7 @@
 """Writes the scripts of the programs that are tests, and what they must print, from the models beside this file.
 
     python3 model/scripts.py            writes the files stdin and stdout of each
+    python3 model/scripts.py map_runs   those of this program alone: `service_runs` takes ten times as long
     python3 model/scripts.py --check    compares them with those that are there, and ends with 1 where one differs
     python3 model/scripts.py --check map_script read_script
                                         the same for what these modules write alone: `service_script` takes longer than all others together
@@ -61,9 +62,14 @@ def check_parts(modules):
     return 1 if differ else 0
 
 
-def main(check):
+def modules_of(crate):
+    """The modules that write a crate's script."""
+    return [name for name in MODULES if importlib.import_module(name).CRATE == crate]
+
+
+def main(check, modules=MODULES):
     differ = 0
-    parts = made_by(MODULES)
+    parts = made_by(modules)
     for crate, of_crate in itertools.groupby(parts, lambda part: part[0]):
         # The files of a crate are those of its modules, one after the other.
         found = [files for _, files in of_crate]
@@ -74,6 +80,8 @@ def main(check):
 
 if __name__ == "__main__":
     chosen = [word for word in sys.argv[1:] if word != "--check"]
+    if len(sys.argv) == 2 and modules_of(sys.argv[1]):
+        sys.exit(main(False, modules_of(sys.argv[1])))
     if not set(chosen) <= set(MODULES) or (chosen and "--check" not in sys.argv):
-        sys.exit(f"--check [MODULE ..], where modules are {', '.join(MODULES)}")
+        sys.exit(f"CRATE, or --check [MODULE ..], where modules are {', '.join(MODULES)}")
     sys.exit(check_parts(chosen) if chosen else main("--check" in sys.argv))
