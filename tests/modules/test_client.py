@@ -183,7 +183,11 @@ class Asked(Leader):
 
 
 class AskedStandby(Asked, Standby):
-    """A standby whose replies are known."""
+    """A standby whose replies are known, also those to requests in a row."""
+
+    def ask_in_a_row(self, requests):
+        for request in requests:
+            yield self.ask(*request)
 
 
 STATUS = ("GET", "/admin/status")
@@ -236,7 +240,7 @@ class Feed(unittest.TestCase):
         )
 
     def test_a_standby_of_another_number_begins_again(self):
-        standby = AskedStandby((("POST", "/admin/edits/at/5"), 409, b"Next 4\n"))
+        standby = AskedStandby(*[(("POST", "/admin/edits/at/5"), 409, b"Next 4\n")] * 2)
         standby.at = 4
         standby.take([{"edit": 5, "changes": []}, {"edit": 6, "changes": []}])
         self.assertIsNone(standby.at)

@@ -5,6 +5,9 @@
     edits, last = leader.edits_from(standby.at + 1)
     standby.take(edits)
 """
+import contextlib
+import itertools
+
 from ..faults import Fault, NoAnswer, Stopped
 from ..limits import MOST_BODY
 from .client import FEED, Client, word
@@ -112,18 +115,35 @@ class Standby(Leader):
 
     def take(self, edits):
         """Makes edits, the first of which is the one after the last. If the number of its next edit is another one, it has to begin again."""
-        for edit in edits:
-            status, content = self.reply_to(edit)
-            if status == 409 and content.startswith(b"Next "):
-                self.at = None
-                return
-            if status != 200:
-                self.refused(edit, status, content)
-            self.at = edit["edit"]
+        while edits:
+            edits = edits[self.take_in_a_row(edits):]
+            if edits:
+                status, content = self.reply_to(edits[0])
+                if status == 409 and content.startswith(b"Next "):
+                    self.at = None
+                    return
+                if status != 200:
+                    self.refused(edits[0], status, content)
+                self.at, edits = edits[0]["edit"], edits[1:]
+
+    def take_in_a_row(self, edits):
+        """Makes edits whose requests are sent in a row, up to the first one that is refused or too long for that. Returns how many. Those after one
+        that is refused are refused too, since each is made under its own number alone."""
+        bodies = list(itertools.takewhile(lambda body: len(body) <= MOST_BODY, map(body_of, edits)))
+        if len(bodies) < 2:
+            return 0
+        made = 0
+        requests = (("POST", f"{NUMBERED}/{edit['edit']}", body) for edit, body in zip(edits, bodies))
+        with contextlib.closing(self.ask_in_a_row(requests)) as replies:
+            for edit, (status, _) in zip(edits, replies):
+                if status != 200:
+                    break
+                self.at, made = edit["edit"], made + 1
+        return made
 
     def reply_to(self, edit):
         """The reply to an edit that gets its own number or isn't made."""
-        body = encoded({"changes": edit["changes"]})
+        body = body_of(edit)
         if len(body) > MOST_BODY:
             return self.put_alone(edit)
         return self.sent("POST", f"{NUMBERED}/{edit['edit']}", body)
@@ -157,6 +177,11 @@ class Standby(Leader):
         self.stop_at(status, content)
         reason = f" ({told(WORDS[said])})" if said in WORDS else ""
         raise Stopped(f"edit {edit['edit']:,} isn't made at {self.address}: {status} {said}{reason}")
+
+
+def body_of(edit):
+    """The body of the request for an edit of the feed."""
+    return encoded({"changes": edit["changes"]})
 
 
 def differing(one, other):

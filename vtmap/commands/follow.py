@@ -5,6 +5,7 @@ import sys
 import threading
 import time
 
+from ..client.client import FEED
 from ..client.feed import THEN, Leader, LeftBehind, Standby
 from ..ending import regular
 from ..faults import Fault, NoAnswer, Stopped
@@ -94,6 +95,8 @@ class Follower:
         """Passes the edits of one reply on. Returns whether there are more."""
         edits, last = self.leader.edits_from(self.sink.at + 1)
         if edits:
+            if edits[-1]["edit"] < last:
+                self.leader.send_ahead(f"{FEED}/{edits[-1]['edit'] + 1}")
             self.sink.take(edits)
         if self.sink.at is None:
             self.begin()
@@ -156,7 +159,7 @@ def options(parser, _):
     parser.add_argument("--log", metavar="FILE", help="append each edit to this file")
     parser.add_argument("--publish", action="store_true", help="publish a standby when its journal is full, and after the server")
     parser.add_argument("--anew", metavar="COMMAND", help="what begins a standby anew from a copy; its address is $STANDBY")
-    parser.add_argument("--every", type=float, default=0.5, metavar="SECONDS", help="how often to ask for new edits (0.5)")
+    parser.add_argument("--every", type=float, default=0.1, metavar="SECONDS", help="how often to ask for new edits (0.1)")
     parser.add_argument("--once", action="store_true", help="end once all edits are followed")
 
 
