@@ -16,6 +16,8 @@ import sys
 DOCS = os.path.join(os.path.dirname(os.path.abspath(__file__)), "..", "docs")
 TIMERS = ("vtserve-publish", "vtserve-watch", "vtserve-backup")
 UNITS = ("vtserve", *TIMERS, "vtserve-log", "vtserve-standby", "vtserve-wfs")
+# The template that isn't made of the unit of one map: an instance is a port.
+OTHER = "vtserve-replica@.service"
 WORDS = "EnvironmentFile=/etc/vtserve/maps/%i\n"
 # What an instance has of its own: files, ports, the path behind nginx.
 OWN = (
@@ -63,6 +65,8 @@ def kept() -> dict[str, str]:
     """The text of each template that there is, by its file name."""
     found = {}
     for path in glob.glob(os.path.join(DOCS, "vtserve*@.*")):
+        if os.path.basename(path) == OTHER:
+            continue
         with open(path, encoding="utf-8") as file:
             found[os.path.basename(path)] = file.read()
     return found

@@ -25,6 +25,8 @@ COMMANDS = {
     "join": ("join", "joins archives of several maps to one"),
     "watch": ("watch", "says what an operator should do before it is too late"),
     "maps": ("maps", "lists, adds and removes the maps of a machine that serves several"),
+    "replica": ("replica", "lists, adds and removes processes that make tiles for readers"),
+    "takeover": ("takeover", "makes the standby on this machine the server that people edit"),
     "delete-layer": ("delete_layer", "deletes the features of layers"),
     "qgis": ("qgis", "writes a QGIS project that shows the map"),
     "follow": ("follow", "follows the edits of a server: into standbys, into a log, or both"),

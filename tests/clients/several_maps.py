@@ -36,14 +36,25 @@ class Here:
         os.chmod(file.name, 0o755)
         self.words = {**os.environ, "PATH": programs + ":" + os.environ["PATH"], "STAND_IN": self.kept, "ROOT": self.root, "PROGRAM": PROGRAM}
 
-    def maps(self, *words):
-        """The status and the lines of `vtmap maps`."""
-        child = subprocess.run([*VTMAP, "maps", *words, "--root", self.root], env=self.words, capture_output=True, text=True)
+    def vtmap(self, *words):
+        """The status and the lines of a command of vtmap that has a root."""
+        child = subprocess.run([*VTMAP, *words, "--root", self.root], env=self.words, capture_output=True, text=True)
         return child.returncode, (child.stdout + child.stderr).splitlines()
+
+    def maps(self, *words):
+        """The same of `vtmap maps`."""
+        return self.vtmap("maps", *words)
 
     def add(self, name, *words):
         """The same, for a new map with a small disk and a free port."""
         return self.maps("add", name, "--port", str(free_pair()), "--sectors", "64", *words)
+
+    def has_front(self, program, front):
+        """This machine's nginx is one that runs: it includes the files of this machine, and is told to read them again."""
+        used = os.path.join(front.folder, "used.conf")
+        os.symlink(self.path("etc/vtserve/nginx-maps"), os.path.join(front.folder, "nginx-maps"))
+        self.words["FRONT"] = front.url
+        self.words["NGINX"] = json.dumps([program, "-p", front.folder, "-c", used])
 
     def calls(self):
         """What systemctl was called with since the last look."""
@@ -102,7 +113,7 @@ def templates(cases):
     units = sorted(os.path.join(TOP, "docs", name) for name in os.listdir(os.path.join(TOP, "docs")) if "@." in name)
     child = subprocess.run(["systemd-analyze", "verify", *units], capture_output=True, text=True)
     faults = [line for line in child.stderr.splitlines() if "is not executable: No such file" not in line]
-    cases.show("maps: systemd-analyze verify of the template units", (len(units), faults), (10, []))
+    cases.show("maps: systemd-analyze verify of the template units", (len(units), faults), (11, []))
 
 
 def commands(cases, here):
@@ -260,10 +271,7 @@ def maps(cases, folder):
         os.mkdir(place)
         with Server(place, "one.disk", 4096) as one:
             with Nginx(program, place, one, [("127.0.0.1:8001", f"127.0.0.1:{free_port()}"), ("alias pages/;", f"alias {TOP}/web/;")]) as front:
-                used = os.path.join(front.folder, "used.conf")
-                os.symlink(here.path("etc/vtserve/nginx-maps"), os.path.join(front.folder, "nginx-maps"))
-                here.words["FRONT"] = front.url
-                here.words["NGINX"] = json.dumps([program, "-p", front.folder, "-c", used])
+                here.has_front(program, front)
                 told = [here.add("north", "--host", "north.example.org", "--wfs"), here.add("south"), here.add("east", "--front", front.url)]
                 cases.show("maps: three maps are added", ([code for code, _ in told], told[2][1][1]), ([0, 0, 0], f"east: {front.url}/east/"))
                 addresses(cases, here, front)

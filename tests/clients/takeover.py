@@ -7,8 +7,9 @@ import signal
 import subprocess
 import time
 
+from several_maps import Here
 from standby import Editor, copied, features, follow, known, once, waited
-from stand import VTMAP, Server, curl, feature, status_of
+from stand import TOP, VTMAP, Nginx, Server, curl, feature, free_port, status_of
 
 # The edits before the machine dies, and the seconds between two of them.
 BEFORE, BETWEEN = 150, 0.02
@@ -124,10 +125,77 @@ def breaks(cases, folder):
         follower.communicate()
 
 
+CLOSED = '"~^ (POST|PUT|DELETE|PATCH)$" 1;\n'
+STARTED = ["disable --now vtserve-standby.service",
+           "enable --now vtserve-nginx.service vtserve-publish.timer vtserve-watch.timer vtserve-backup.timer vtserve-log.service",
+           "start --no-block vtserve-publish.service vtserve-backup.service"]
+
+
+def by_a_command(cases, folder):
+    """`vtmap takeover` on the second machine, which nginx serves to readers from the start."""
+    program = shutil.which("nginx", path=os.environ.get("PATH", "") + ":/usr/sbin")
+    if not program:
+        cases.say("takeover: no nginx: no command takes over")
+        return
+    place = os.path.join(folder, "by_a_command")
+    os.mkdir(place)
+    here = Here(place)
+    for part in ("etc/vtserve/nginx-maps", "var/lib/vtserve-nginx"):
+        os.makedirs(here.path(part))
+    leader = Server(place, "leader")
+    curl(f"{leader.url}/features/1", "-X", "PUT", body=feature())
+    with Server(place, copied(leader, place, "standby")) as standby, Nginx(program, place, standby) as front:
+        here.has_front(program, front)
+        front_file = here.path("etc/vtserve/nginx.conf")
+        with open(here.path("etc/vtserve/nginx-maps/closed.conf"), "w", encoding="utf-8") as file:
+            file.write(CLOSED + CLOSED.replace("^ ", "^north "))
+        subprocess.run(["systemctl", "reload", "vtserve-nginx.service"], env=here.words)
+        words = ["takeover", "--url", standby.url, "--leader", leader.url]
+        closed = waited(lambda: status_of(curl(front.url + "/features/9", "-X", "PUT", body=feature())) == 503)
+        readers = status_of(curl(front.url + "/features/1")), status_of(curl(front.url + "/map/0/0/0.mvt"))
+        cases.show("takeover: nobody edits the standby by its nginx, and readers read", (closed, readers), (True, (200, 200)))
+        here.calls()
+        cases.show("takeover: without nginx.conf", here.vtmap(*words), (1, [f"there is no {front_file}: copy that of the first machine"]))
+        shutil.copy(os.path.join(TOP, "docs", "nginx.conf"), front_file)
+        cases.show("takeover: the first machine answers", here.vtmap(*words), (
+            1, [f"{standby.url}: 1 features, edit 1",
+                f"{leader.url} answers, and has edit 1: stop it, or see to it that nobody edits it any more and say --planned"]))
+        cases.show("takeover: nothing was done", [call for call in here.calls() if not call.startswith(("cat ", "--quiet"))], [])
+        told = here.vtmap(*words, "--dry-run")
+        wanted = [f"{leader.url} answers, and has edit 1", *["would be done"] * 4]
+        cases.show("takeover: a try while it does", (told[0], [line.split(": ")[0] for line in told[1][1:]]), (0, wanted))
+        edit = curl(f"{leader.url}/features/2", "-X", "PUT", body=feature())[2]
+        late = here.vtmap(*words, "--planned", "--wait", "1")
+        cases.show("takeover: a planned one that lacks an edit", (edit, late[0], "edit 2 of " in late[1][-1]), (b'{"edit":2}', 1, True))
+        cases.show("takeover: nothing was done then", [call for call in here.calls() if not call.startswith(("cat ", "--quiet"))], [])
+        leader.end(signal.SIGKILL)
+        leader.__exit__()
+        told = here.vtmap(*words, "--dry-run")
+        cases.show("takeover: a try", (told[0], told[1][1]), (0, f"{leader.url} doesn't answer"))
+        by_unit = here.vtmap("takeover", "--url", standby.url, "--dry-run")
+        cases.show("takeover: the unit says who is followed", (by_unit[0], by_unit[1][1]), (0, "http://FIRST:8000 doesn't answer"))
+        cases.show("takeover: still nothing was done", [call for call in here.calls() if not call.startswith(("cat ", "--quiet"))], [])
+        with open(front_file, "a", encoding="utf-8") as file:
+            file.write("no configuration\n")
+        cases.show("takeover: an nginx.conf that nginx refuses", here.vtmap(*words)[0], 1)
+        shutil.copy(os.path.join(TOP, "docs", "nginx.conf"), front_file)
+        here.calls()
+        told = here.vtmap(*words)
+        cases.show("takeover: is done", (told[0], told[1][2].split(".")[0]), (0, "taken over: edits go on with 2"))
+        called = [call for call in here.calls() if not call.startswith("cat ")]
+        cases.show("takeover: what it runs", [call for call in called if call in STARTED], STARTED)
+        edit = waited(lambda: curl(front.url + "/features/9", "-X", "PUT", body=feature())[2] == b'{"edit":2}')
+        with open(here.path("etc/vtserve/nginx-maps/closed.conf"), encoding="utf-8") as file:
+            cases.show("takeover: people edit here, and the line of another map stays", (edit, file.read()), (True, CLOSED.replace("^ ", "^north ")))
+    nobody = here.vtmap("takeover", "--url", f"http://127.0.0.1:{free_port()}", "--leader", leader.url)
+    cases.show("takeover: without a standby", nobody[0], 3)
+
+
 def takeover(cases, folder):
     """Machines that die."""
     place = os.path.join(folder, "takeover_part")
     os.mkdir(place)
+    by_a_command(cases, place)
     for every in (0.1, 0.5, 2):
         old, standby = dies(cases, place, every)
         if every == 0.5:

@@ -23,6 +23,8 @@ EXPOSURE = {
     "vtserve-log.service": 1.5,
     "vtserve-standby.service": 1.5,
     "vtserve-wfs.service": 1.5,
+    "vtserve-replicas.service": 1.5,
+    "vtserve-replica@.service": 1.5,
 }
 # What the units with timers run, and those that follow the edits.
 TASKS = {

@@ -1,4 +1,6 @@
 """Several requests in a row on one connection: each is sent before the replies to those before it have come. Needs no package."""
+from __future__ import annotations
+
 import http.client
 import socket
 from collections import deque

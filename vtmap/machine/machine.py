@@ -2,6 +2,7 @@
 from __future__ import annotations
 
 import os
+import re
 import shutil
 import subprocess
 from typing import Any
@@ -27,7 +28,15 @@ GATEWAY = "vtserve-wfs@{}.service"
 # What is done once at first: `vtmap watch` looks for both.
 FIRST = ("vtserve-publish@{}.service", "vtserve-backup@{}.service")
 OTHERS = (GATEWAY, "vtserve-log@{}.service", "vtserve-standby@{}.service")
-FRONT, FRONT_FILE = "vtserve-nginx.service", "etc/vtserve/nginx.conf"
+FRONT, FRONT_FILE, FRONT_FOLDER = "vtserve-nginx.service", "etc/vtserve/nginx.conf", "var/lib/vtserve-nginx"
+# What nginx includes of the maps that a standby has, in which nobody else makes edits.
+CLOSED = f"{NGINX}/closed.conf"
+
+
+def unit_of(unit: str, name: str | None) -> str:
+    """The unit of one of several maps, by that of the only map: vtserve-log@NAME.service for vtserve-log.service."""
+    stem, _, kind = unit.rpartition(".")
+    return unit if name is None else f"{stem}@{name}.{kind}"
 
 
 class Machine:
@@ -61,6 +70,13 @@ class Machine:
             with open(self.path(MAPS, name), encoding="utf-8") as file:
                 found.append(map_of(name, file.read()))
         return found
+
+    def named(self, name: str) -> MapHere:
+        """The map of a name. Raises `Refused`."""
+        found = [one for one in self.maps() if one.name == name]
+        if not found:
+            raise Refused(f"there is no map {name} on this machine")
+        return found[0]
 
     def owned(self, path: str, mode: int, of_user: bool) -> None:
         """Sets the mode of a file or folder, and whose it is: the user's, or root's with the user's group."""
@@ -136,17 +152,40 @@ class Machine:
         os.makedirs(self.path(NGINX), exist_ok=True)
         for name, text in files_of(maps).items():
             replaced(self.path(NGINX, name), text)
+        return self.reload_nginx()
+
+    def reload_nginx(self) -> bool:
+        """Has nginx read its configuration again. Returns whether it runs."""
         is_active = subprocess.run(["systemctl", "--quiet", "is-active", FRONT], check=False).returncode == 0
         if is_active:
             self.systemctl("reload", FRONT)
         return is_active
 
+    def try_nginx(self) -> None:
+        """Raises `Refused` if nginx doesn't accept its configuration."""
+        path = self.path(FRONT_FILE)
+        if not os.path.exists(path):
+            raise Refused(f"there is no {path}: copy that of the first machine")
+        self.run(["nginx", "-g", "user www-data;", "-q", "-t", "-p", self.path(FRONT_FOLDER), "-c", path])
+
+    def open(self, name: str | None) -> None:
+        """Lets nginx pass edits of a map on, which a standby had: of that name, or of the only one."""
+        path = self.path(CLOSED)
+        if os.path.exists(path):
+            with open(path, encoding="utf-8") as file:
+                lines = file.readlines()
+            replaced(path, "".join(line for line in lines if not re.match(rf'"?~\^{name or ""} ', line)))
+
+    def unit(self, name: str) -> str:
+        """The text of a unit of systemd. Raises `Refused` if there is none of that name."""
+        return self.run(["systemctl", "cat", name])
+
     def systemctl(self, *words: str) -> None:
         """Runs systemctl. Raises `Refused`."""
         self.run(["systemctl", *words])
 
-    def run(self, line: list[str], **user: Any) -> None:
-        """Runs a command. Raises `Refused` with what it printed if it fails."""
+    def run(self, line: list[str], **user: Any) -> str:
+        """Runs a command, and returns what it printed. Raises `Refused` with that if it fails."""
         try:
             child = subprocess.run(
                 line, check=False, text=True, stdout=subprocess.PIPE, stderr=subprocess.STDOUT, **user
@@ -155,3 +194,4 @@ class Machine:
             raise Refused(f"{line[0]} isn't installed") from None
         if child.returncode:
             raise Refused(f"{' '.join(line)} ended with {child.returncode}: {child.stdout.strip()}")
+        return child.stdout

@@ -1,0 +1,124 @@
+"""`vtmap takeover`: makes the standby on this machine the server that people edit. Needs no package."""
+from __future__ import annotations
+
+import argparse
+import re
+import time
+
+from ..client.client import Client
+from ..faults import Fault, Refused
+from ..machine.machine import CLOSED, FRONT, Machine, unit_of
+
+ABOUT = {"takeover": """Makes the standby on this machine the server that people edit, after the first machine is gone. Run it as root, here.
+
+    vtmap takeover --dry-run
+    vtmap takeover
+
+It looks first whether all is there: a standby that answers and isn't broken, its unit vtserve-standby, the units that a first
+machine runs, and an nginx.conf that nginx accepts. Then it stops following the first machine, starts nginx, publications, backups,
+the watch and the log, and lets edits in. --dry-run looks alone, and says what would be done.
+
+If the first machine still answers, nothing is done: two machines that take edits of one map have two maps. With --planned it is
+waited until this one has all of its edits, which end before (`deny all` in its nginx.conf, or another machine that is stopped).
+--map NAME takes one of several maps of this machine over."""}
+# How many seconds the first machine has to answer.
+PATIENCE = 5
+# What a first machine runs beside the server. What of it makes the first backup and the first publication, for which `vtmap watch` looks.
+FIRST_HERE = ("vtserve-publish.timer", "vtserve-watch.timer", "vtserve-backup.timer", "vtserve-log.service")
+ONCE = ("vtserve-publish.service", "vtserve-backup.service")
+STANDBY = "vtserve-standby.service"
+
+
+def options(parser: argparse.ArgumentParser, _: str) -> None:
+    """The words of the command."""
+    parser.add_argument("--map", metavar="NAME", help="the map of that name, where there are several")
+    parser.add_argument("--leader", metavar="URL", help="the first machine (the one that vtserve-standby follows)")
+    parser.add_argument("--planned", action="store_true", help="the first machine answers, and takes no edits any more: wait for its last one")
+    parser.add_argument("--wait", type=float, default=60, metavar="SECONDS", help="how long --planned waits (60)")
+    parser.add_argument("--dry-run", action="store_true", help="look whether all is there, and say what would be done")
+    parser.add_argument("--root", metavar="FOLDER", default="/", help="the folder of /etc and /var, for a try")
+
+
+def leader_of(unit: str, text: str) -> str:
+    """Whom the unit of a standby follows, by its text."""
+    found = re.search(r"(?m)^ExecStart=(?:.*\\\n)*.*--url (\S+)", text)
+    if not found:
+        raise Refused(f"{unit} follows nobody: give --leader URL")
+    return found[1]
+
+
+def known(client: Client) -> dict:
+    """What the server here tells of itself, if it can be taken over."""
+    status = client.status()
+    if status is None:
+        raise Refused(f"{client.address} runs without --admin: it can't be a standby")
+    if status["broken"]:
+        raise Refused(f"{client.address} is broken: restart it (systemctl restart vtserve), and see whether it opens its disk")
+    return status
+
+
+def edits_of(leader: Client) -> int | None:
+    """The number of the last edit of the first machine, None if it doesn't answer."""
+    try:
+        status = leader.status()
+    except Fault:
+        return None
+    finally:
+        leader.close()
+    return status["edits"] if status else None
+
+
+def look_at_leader(words: argparse.Namespace, leader: Client, here: Client) -> None:
+    """Refuses while the first machine answers, unless that is planned; then waits until this one has all of its edits."""
+    leader.longest = PATIENCE
+    edits = edits_of(leader)
+    if edits is None:
+        print(f"{leader.address} doesn't answer")
+        return
+    answers = f"{leader.address} answers, and has edit {edits:,}"
+    if words.dry_run:
+        print(answers)
+        return
+    if not words.planned:
+        raise Refused(f"{answers}: stop it, or see to it that nobody edits it any more and say --planned")
+    end = time.monotonic() + words.wait
+    while True:
+        time.sleep(1)
+        mine, now = known(here)["edits"], edits_of(leader)
+        if now is None or mine == now == edits:
+            return
+        if now != edits:
+            raise Refused(f"{leader.address} still takes edits ({edits:,}, then {now:,}): close it first (deny all in its nginx.conf)")
+        if time.monotonic() > end:
+            raise Refused(f"edit {now:,} of {leader.address} isn't here after {words.wait:g} s, but {mine:,}: what does journalctl -u vtserve-standby say?")
+
+
+def work(words: argparse.Namespace) -> int:
+    """Looks, and takes over."""
+    machine = Machine(words.root)
+    here = Client(f"http://127.0.0.1:{machine.named(words.map).port}" if words.map else words.url)
+    status = known(here)
+    standby, *units = (unit_of(name, words.map) for name in (STANDBY, *FIRST_HERE))
+    once = [unit_of(name, words.map) for name in ONCE]
+    leader = Client(words.leader or leader_of(standby, machine.unit(standby)))
+    for each in (*units, *once, FRONT):
+        machine.unit(each)
+    machine.try_nginx()
+    print(f"{here.address}: {status['features']:,} features, edit {status['edits']:,}")
+    look_at_leader(words, leader, here)
+    if words.dry_run:
+        print(f"would be done: systemctl disable --now {standby}\nwould be done: {machine.path(CLOSED)} lets edits of this map in\n"
+              f"would be done: systemctl enable --now {FRONT} {' '.join(units)}\nwould be done: systemctl start --no-block {' '.join(once)}")
+        return 0
+    try:
+        machine.systemctl("disable", "--now", standby)
+        edits = known(here)["edits"]
+        machine.open(words.map)
+        machine.systemctl("enable", "--now", FRONT, *units)
+        machine.reload_nginx()
+        machine.systemctl("start", "--no-block", *once)
+    except PermissionError as fault:
+        raise Refused(f"{fault.filename}: run it as root") from None
+    print(f"taken over: edits go on with {edits + 1:,}. Give this machine the first one's name or address. The first one may not serve this map again "
+          f"with its old disk: what it has from edit {edits + 1:,} on isn't here")
+    return 0
