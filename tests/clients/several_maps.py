@@ -195,7 +195,7 @@ def addresses(cases, here, front):
     cases.show("maps: an edit of a page of another origin", found, [403] * 3)
     for path, words, place in (("/north", (), f"{url}/north"), ("", north, "http://north.example.org"), ("", (), url)):
         found = json.loads(curl(url + path + "/map.json", *words)[2])
-        cases.show(f"maps: TileJSON of {place}", found["tiles"], [place + "/map/{z}/{x}/{y}.mvt"])
+        cases.show(f"maps: TileJSON of {place}", (found["tiles"], "bounds" in found), ([place + "/map/{z}/{x}/{y}.mvt"], False))
     for path, words in (("/north", ()), ("", north), ("", ())):
         page = curl(f"{url}{path}/pages/", *words)
         moved = [field(curl(url + path + end, *words), "location") for end in ("/", "/pages")]
@@ -217,6 +217,33 @@ def addresses(cases, here, front):
     cases.show("maps: a map without a gateway", status_of(curl(url + "/south/ogc/")), 502)
     logs = {name: open(os.path.join(front.folder, name), encoding="utf-8").read().count("\n") for name in sorted(os.listdir(front.folder)) if "edits" in name}
     cases.show("maps: a log of the edits of each", logs, {"edits-east.log": 1, "edits-north.log": 1, "edits-south.log": 1, "edits.log": 1})
+
+
+def boxes(cases, here, front):
+    """The box that the TileJSON of a map has."""
+    def tilejson(wanted):
+        """The box and the centre of a map's TileJSON, once nginx has read its files."""
+        found = None
+        for _ in range(100):
+            reply = json.loads(curl(front.url + f"/south/map.json?{time.monotonic()}")[2])
+            found = reply.get("bounds"), reply.get("center")
+            if found == wanted:
+                break
+            time.sleep(0.1)
+        return found
+
+    wrong = ["7.2,54.3,7.9", "a,b,c,d", "7.9,54.3,7.2,54.8", "7.2,54.8,7.9,54.3", "-181,0,0,1", "0,0,1,86", "nan,0,1,1"]
+    cases.show("maps: boxes that are none", [here.maps("bounds", "south", "--bounds=" + text)[0] for text in wrong], [2] * len(wrong))
+    cases.show("maps: the box of a map that isn't there", here.maps("bounds", "west")[0], 1)
+    with open(here.path("etc/vtserve/maps/south"), "a", encoding="utf-8") as file:
+        file.write("VTSERVE_PAUSE=5\n")
+    # A box of 0.7 degrees is 1/514 of the world's width: nine halvings.
+    cases.show("maps: a box", here.maps("bounds", "south", "--bounds=-7.2,54.3,-6.5,54.8"), (0, ["south: bounds -7.2,54.3,-6.5,54.8"]))
+    cases.show("maps: its TileJSON has it", tilejson(([-7.2, 54.3, -6.5, 54.8], [-6.85, 54.55, 9])), ([-7.2, 54.3, -6.5, 54.8], [-6.85, 54.55, 9]))
+    with open(here.path("etc/vtserve/maps/south"), encoding="utf-8") as file:
+        cases.show("maps: its file, with what was added to it", file.read().splitlines()[3:], ['HOSTS=""', "VTSERVE_PAUSE=5", "BOUNDS=-7.2,54.3,-6.5,54.8"])
+    cases.show("maps: no box any more", here.maps("bounds", "south"), (0, ["south: no bounds"]))
+    cases.show("maps: nor has its TileJSON", tilejson((None, None)), (None, None))
 
 
 def fates(cases, here, front):
@@ -275,6 +302,7 @@ def maps(cases, folder):
                 told = [here.add("north", "--host", "north.example.org", "--wfs"), here.add("south"), here.add("east", "--front", front.url)]
                 cases.show("maps: three maps are added", ([code for code, _ in told], told[2][1][1]), ([0, 0, 0], f"east: {front.url}/east/"))
                 addresses(cases, here, front)
+                boxes(cases, here, front)
                 fates(cases, here, front)
     finally:
         here.end()

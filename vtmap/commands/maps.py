@@ -5,14 +5,15 @@ import argparse
 import re
 
 from ..client.client import Client
-from ..faults import Fault, NoAnswer, Refused
+from ..faults import Fault, NoAnswer, Refused, Wrong
 from ..machine.machine import Machine
-from ..machine.map_file import MapHere, new_map
+from ..machine.map_file import MapHere, box, new_map
 
 ABOUT = {"maps": """Lists, adds and removes the maps of a machine that serves several. Run it as root, on that machine.
 
     vtmap maps
     vtmap maps add north --host north.example.org
+    vtmap maps bounds north --bounds 7.2,54.3,7.9,54.8
     vtmap maps remove north
 
 A map has a name, a disk file of its own, /var/lib/vtserve/NAME/map.disk, and the file /etc/vtserve/maps/NAME, which has
@@ -20,7 +21,8 @@ its ports. Its processes are vtserve@NAME and its companions of systemd. Behind 
 and at / of each --host.
 
 add makes the disk file, unless it is there from a time before, and starts the server and the timers that publish, watch
-and save the map; with --wfs also its gateway for QGIS. remove stops them, and keeps the disk file and the backups. No
+and save the map; with --wfs also its gateway for QGIS. bounds changes the box that the map's TileJSON
+(/NAME/map.json) tells clients, who ask for no tile outside of it: give one that features never leave. remove stops them, and keeps the disk file and the backups. No
 other map is touched: nginx reads its configuration again, and no request fails."""}
 FRONT = "http://localhost:8000"
 # The sectors of a disk file that are the usual ones, and the fewest and the most.
@@ -28,14 +30,23 @@ SECTORS, LEAST, MOST = 262144, 64, 16777216
 MEMORY = re.compile(r"[1-9][0-9]*[KMGT]?")
 
 
+def bounds(text: str) -> tuple[float, ...]:
+    """A box of the command line."""
+    try:
+        return box(text)
+    except Wrong as fault:
+        raise argparse.ArgumentTypeError(str(fault)) from None
+
+
 def options(parser: argparse.ArgumentParser, _: str) -> None:
     """The words of the command."""
-    parser.add_argument("action", nargs="?", choices=["add", "remove"], help="what to do (list the maps)")
+    parser.add_argument("action", nargs="?", choices=["add", "bounds", "remove"], help="what to do (list the maps)")
     parser.add_argument("name", nargs="?", metavar="NAME", help="the name of a map")
     parser.add_argument("--host", action="append", default=[], help="a host name of the map; several times")
     parser.add_argument("--sectors", type=int, default=SECTORS, help=f"sectors of its disk file ({SECTORS})")
     parser.add_argument("--memory", metavar="SIZE", help="the most memory of its server, such as 512M (1G)")
     parser.add_argument("--port", type=int, help="the port of its server, before its gateway's (8100, 8102, ..)")
+    parser.add_argument("--bounds", metavar="W,S,E,N", type=bounds, help="the box of its features in degrees, as --bounds=W,S,E,N; clients ask for no tile outside")
     parser.add_argument("--wfs", action="store_true", help="start its gateway for QGIS too")
     parser.add_argument("--front", metavar="URL", default=FRONT, help=f"the address of nginx, for the list ({FRONT})")
     parser.add_argument("--root", metavar="FOLDER", default="/", help="the folder of /etc and /var, for a try")
@@ -88,7 +99,7 @@ def add(machine: Machine, words: argparse.Namespace) -> None:
     maps = machine.maps()
     if words.name in [one.name for one in maps]:
         raise Refused(f"there is a map {words.name} already")
-    one = new_map(words.name, words.port, words.host, maps)
+    one = new_map(words.name, words.port, words.host, words.bounds or (), maps)
     machine.check_nginx()
     machine.make_folders(one.name)
     is_new = machine.make_disk(one.name, words.sectors)
@@ -104,6 +115,15 @@ def add(machine: Machine, words: argparse.Namespace) -> None:
     print(f"{machine.disk(one.name)} {f'is formatted, {words.sectors} sectors' if is_new else 'is kept as it was'}")
     for address in addresses(one, words.front):
         print(f"{one.name}: {address}" + ("" if is_there else " once nginx runs (vtserve-nginx.service)"))
+
+
+def set_bounds(machine: Machine, words: argparse.Namespace) -> None:
+    """Changes the box of a map; without one it has none."""
+    one = machine.named(words.name)._replace(bounds=words.bounds or ())
+    machine.check_nginx()
+    machine.write_bounds(one)
+    machine.tell_nginx([one if each.name == one.name else each for each in machine.maps()])
+    print(f"{one.name}: {'bounds ' + ','.join(f'{degrees:g}' for degrees in one.bounds) if one.bounds else 'no bounds'}")
 
 
 def remove(machine: Machine, words: argparse.Namespace) -> None:
@@ -124,7 +144,7 @@ def work(words: argparse.Namespace) -> int:
     if words.action is None:
         return show(machine.maps(), words.front)
     try:
-        (add if words.action == "add" else remove)(machine, words)
+        {"add": add, "bounds": set_bounds, "remove": remove}[words.action](machine, words)
     except PermissionError as fault:
         raise Refused(f"{fault.filename}: run it as root") from None
     return 0

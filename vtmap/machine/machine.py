@@ -114,6 +114,14 @@ class Machine:
             file.write(one.text)
         self.owned(path, 0o640, False)
 
+    def write_bounds(self, one: MapHere) -> None:
+        """Writes the box of a map into its file, whose other lines stay."""
+        path = self.path(MAPS, one.name)
+        with open(path, encoding="utf-8") as file:
+            lines = [line for line in file if not line.startswith("BOUNDS=")]
+        replaced(path, "".join(lines) + "".join(line + "\n" for line in one.text.splitlines() if line.startswith("BOUNDS=")))
+        self.owned(path, 0o640, False)
+
     def limit(self, name: str, memory: str) -> None:
         """Sets the most memory that the server of a map may have."""
         folder = self.path(UNITS, STARTED[0].format(name) + ".d")

@@ -18,18 +18,31 @@ ABOUT = """# The map {name}, by `vtmap maps`. Its units read this file: add vari
 
 
 class MapHere(NamedTuple):
-    """A map of this machine: its name, the ports of its server and of its gateway, and its own host names."""
+    """A map of this machine: its name, the ports of its server and of its gateway, its own host names, and the box in which its features are, in
+    degrees from west and south to east and north."""
 
     name: str
     port: int
     gateway: int
     hosts: tuple[str, ...] = ()
+    bounds: tuple[float, ...] = ()
 
     @property
     def text(self) -> str:
         """The content of its file."""
-        hosts = " ".join(self.hosts)
-        return ABOUT.format(name=self.name) + f'PORT={self.port}\nGATEWAY={self.gateway}\nHOSTS="{hosts}"\n'
+        hosts, bounds = " ".join(self.hosts), ",".join(f"{degrees:g}" for degrees in self.bounds)
+        return ABOUT.format(name=self.name) + f'PORT={self.port}\nGATEWAY={self.gateway}\nHOSTS="{hosts}"\n' + (f"BOUNDS={bounds}\n" if bounds else "")
+
+
+def box(text: str) -> tuple[float, ...]:
+    """A box, as --bounds has it: degrees west, south, east, north. Raises `Wrong`."""
+    try:
+        west, south, east, north = map(float, text.split(","))
+    except ValueError:
+        raise Wrong(f"{text!r} is no box of degrees: west,south,east,north, such as 7.2,54.3,7.9,54.8") from None
+    if not (-180 <= west < east <= 180 and -85.06 <= south < north <= 85.06):
+        raise Wrong(f"{text!r} is no box of the map: west is less than east, from -180 to 180, and south less than north, from -85.06 to 85.06")
+    return west, south, east, north
 
 
 def map_of(name: str, text: str) -> MapHere:
@@ -41,12 +54,13 @@ def map_of(name: str, text: str) -> MapHere:
             words[key.strip()] = value
     try:
         hosts = tuple(" ".join(shlex.split(words.get("HOSTS", ""))).split())
-        return MapHere(name, int(words["PORT"]), int(words["GATEWAY"]), hosts)
+        bounds = box(words["BOUNDS"]) if words.get("BOUNDS") else ()
+        return MapHere(name, int(words["PORT"]), int(words["GATEWAY"]), hosts, bounds)
     except (LookupError, ValueError) as fault:
         raise Refused(f"the file of the map {name} has no PORT and GATEWAY that are numbers ({fault})") from None
 
 
-def new_map(name: str, port: int | None, hosts: list[str], others: list[MapHere]) -> MapHere:
+def new_map(name: str, port: int | None, hosts: list[str], bounds: tuple[float, ...], others: list[MapHere]) -> MapHere:
     """A map that isn't one of the others yet. Raises `Wrong`, or `Refused`."""
     if not NAME.fullmatch(name) or name in PATHS:
         rule = f"at most 31 of a-z, 0-9 and -, a letter first, and none of {', '.join(PATHS)}"
@@ -63,4 +77,4 @@ def new_map(name: str, port: int | None, hosts: list[str], others: list[MapHere]
         port = next(each for each in range(FIRST_PORT, LAST_PORT, 2) if not used & {each, each + 1})
     elif used & {port, port + 1} or not 0 < port <= LAST_PORT:
         raise Refused(f"port {port}, or the one after it, is used by another map, or is none")
-    return MapHere(name, port, port + 1, tuple(hosts))
+    return MapHere(name, port, port + 1, tuple(hosts), bounds)

@@ -1,4 +1,6 @@
 """What docs/nginx.conf includes of the maps of this machine, from the folder nginx-maps beside it. Needs no package."""
+import math
+
 from .map_file import MapHere
 
 ABOUT = "# Written by `vtmap maps`.\n"
@@ -28,6 +30,14 @@ def rewrite_of(one: MapHere) -> str:
     return f"if ($map_of_path = {one.name}) {{\n    rewrite ^/{one.name}(?:/(.*))?$ /$1;\n}}\n"
 
 
+def bounds_of(one: MapHere) -> str:
+    """What the TileJSON of a map says of its box: clients ask for no tile outside of it."""
+    west, south, east, north = one.bounds
+    zoom = max(0, int(math.log2(360 / (east - west))))
+    box = ",".join(f"{degrees:g}" for degrees in one.bounds)
+    return f"""{one.name} ',"bounds":[{box}],"center":[{(west + east) / 2:g},{(south + north) / 2:g},{zoom}]';\n"""
+
+
 def files_of(maps: list[MapHere]) -> dict[str, str]:
     """The files, by their names."""
     hosts = [(host, one.name) for one in maps for host in one.hosts]
@@ -36,5 +46,6 @@ def files_of(maps: list[MapHere]) -> dict[str, str]:
         "hosts.conf": ABOUT + "".join(f"{host} {name};\n" for host, name in hosts),
         "paths.conf": ABOUT + "".join(f'"~^/{one.name}(/|\\?|$)" {one.name};\n' for one in maps),
         "rewrites.conf": ABOUT + "".join(map(rewrite_of, maps)),
+        "bounds.conf": ABOUT + "".join(bounds_of(one) for one in maps if one.bounds),
         "names.conf": ABOUT + "".join(f"server_name {host};\n" for host, _ in hosts),
     }
