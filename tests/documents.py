@@ -1,19 +1,23 @@
 #!/usr/bin/env python3
-"""Runs the commands of README.md and of docs/HTTP.md, COMMANDS.md, DEPLOYING.md and OFFICE.md, and compares what they print with what the page says.
+"""Runs the commands of README.md and of docs/HTTP.md, COMMANDS.md, DEPLOYING.md and OFFICE.md, and compares what they
+print with what the page says.
 
     python3 tests/documents.py [PROGRAM] [--page PAGE] [--show]    PROGRAM is crates/vtserve/out/vtserve
-    python3 tests/documents.py --lists                             the pages' own lists, words, links and drawing alone (page_lists.py)
+    python3 tests/documents.py --lists                             the pages' own lists, words, links and drawing alone
+                                                                   (page_lists.py)
 
-A command is a line `$ COMMAND` of a block that begins with three backquotes and `console`; it continues over lines that end in a
-backslash, and to the end of a here-document. The lines below it are its output, standard error included. `...` alone on a line matches
-any lines, `[..]` in a line any characters. Blocks marked `sh` are commands that need another machine (systemd, a package
-registry, the network); they are counted, and not run.
+A command is a line `$ COMMAND` of a block that begins with three backquotes and `console`; it continues over lines that
+end in a backslash, and to the end of a here-document. The lines below it are its output, standard error included. `...`
+alone on a line matches any lines, `[..]` in a line any characters. Blocks marked `sh` are commands that need another
+machine (systemd, a package registry, the network); they are counted, and not run.
 
-The commands of a page run in one bash, in order, in a fresh folder with copies of vtmap/, bin/, web/, examples/, docs/, tools/ and
-crates/vtserve/stdin, as in a clone, with PROGRAM in crates/vtserve/out/ and on the PATH, and /usr/sbin for pages that root reads. Each page has its own network, processes, /etc, /usr/local and /var/lib
-(`unshare` and an overlay, so this needs root on Linux): ports and paths are as written, and nothing of the machine changes. Prints
-each difference and the counts, and ends with 1 if there is a difference. --show prints all that the commands print. Without --page it
-also checks the lists, and that the page and OFFICE.md have the reasons of refusals of vtmap/client/refusals.py.
+The commands of a page run in one bash, in order, in a fresh folder with copies of vtmap/, bin/, web/, examples/, docs/,
+tools/ and crates/vtserve/stdin, as in a clone, with PROGRAM in crates/vtserve/out/ and on the PATH, and /usr/sbin for
+pages that root reads. Each page has its own network, processes, /etc, /usr/local and /var/lib (`unshare` and an
+overlay, so this needs root on Linux): ports and paths are as written, and nothing of the machine changes. Prints each
+difference and the counts, and ends with 1 if there is a difference. --show prints all that the commands print. Without
+--page it also checks the lists, and that the page and OFFICE.md have the reasons of refusals of
+vtmap/client/refusals.py.
 """
 import argparse
 import os
@@ -89,8 +93,9 @@ class Shell:
         self.screen, terminal = pty.openpty()
         script, self.script = os.pipe()
         known = os.environ.get("PATH", "").split(":")
-        places = [os.path.dirname(program), *([*known, "/usr/sbin"] if is_root else [place for place in known if not place.endswith("sbin")])]
-        words = {"PATH": ":".join(places), "HOME": folder, "LANG": "C.UTF-8", "TERM": "dumb"}
+        further = [*known, "/usr/sbin"] if is_root else [place for place in known if not place.endswith("sbin")]
+        places = ":".join([os.path.dirname(program), *further])
+        words = {"PATH": places, "HOME": folder, "LANG": "C.UTF-8", "TERM": "dumb"}
         self.child = subprocess.Popen(
             ["bash", "--norc", f"/dev/fd/{script}"],
             cwd=folder,
@@ -142,7 +147,8 @@ def run_page(page, program, show):
             upper, work, folder = f"{scratch}/upper{number}", f"{scratch}/work{number}", f"{scratch}/clone"
             os.makedirs(upper)
             os.makedirs(work)
-            subprocess.run(["mount", "-t", "overlay", "overlay", "-o", f"lowerdir={own},upperdir={upper},workdir={work}", own], check=True)
+            layers = f"lowerdir={own},upperdir={upper},workdir={work}"
+            subprocess.run(["mount", "-t", "overlay", "overlay", "-o", layers, own], check=True)
         for name in ["vtmap", "bin", "web", "examples", "docs", "tools"]:
             shutil.copytree(os.path.join(TOP, name), os.path.join(folder, name))
         os.makedirs(f"{folder}/crates/vtserve")
@@ -161,7 +167,8 @@ def run_page(page, program, show):
                 print(f"$ {command}\n{found}", end="")
             if not sought.fullmatch(found):
                 differ += 1
-                print(f"{page}:{number}: $ {command}\nprints\n{short(found)}where the page says\n{expected}", flush=True)
+                print(f"{page}:{number}: $ {command}\nprints\n{short(found)}", end="")
+                print(f"where the page says\n{expected}", flush=True)
         print(f"{page}: {len(rows)} commands run, {differ} differ; {left_out} not run", flush=True)
         subprocess.run(["umount", "-l", *reversed(OWN), scratch], check=False)
     return differ
@@ -183,11 +190,13 @@ def main():
     differ = 0
     for page in words.page or PAGES:
         apart = ["unshare", "--net", "--mount", "--pid", "--fork", "--kill-child", "--mount-proc"]
-        again = [sys.executable, os.path.abspath(__file__), program, "--page", page, "--inside", *(["--show"] if words.show else [])]
+        again = [sys.executable, os.path.abspath(__file__), program, "--page", page, "--inside"]
+        again += ["--show"] if words.show else []
         differ += subprocess.run([*apart, *again], check=False).returncode != 0
     if not words.page:
         differ += page_lists.check()
-        differ += subprocess.run([sys.executable, "-m", "vtmap.client.refusals", "check"], cwd=TOP, check=False).returncode != 0
+        reasons = [sys.executable, "-m", "vtmap.client.refusals", "check"]
+        differ += subprocess.run(reasons, cwd=TOP, check=False).returncode != 0
     print(f"{len(words.page or PAGES)} pages, {differ} differ")
     return 1 if differ else 0
 

@@ -1,6 +1,7 @@
 """What the pages list, checked against what there is: `python3 tests/documents.py --lists`.
 
-- The section Trusted of PROMISES.md names just the ported crates of crates.txt, and those below them that the built libraries name.
+- The section Trusted of PROMISES.md names just the ported crates of crates.txt, and those below them that the build
+  names: the libraries of the kit, and those built in this clone.
 - bench/README.md names each folder of bench/, METHOD.md each of its scripts and tools, model/README.md each model.
 - PROOFS.md counts functions and proofs within a tenth, and docs/pictures/crates.svg is what tools/floors.py draws.
 - Versions of CHANGELOG.md have dates, and its lines at most forty words.
@@ -116,7 +117,8 @@ def counted() -> Iterator[str]:
     proofs = len({path.parent for path in kept if path.name in ("Answers.antt", "Invariants.antt")})
     found = re.search(r"Of some ([\d,]+) functions ([\d,]+) have one", read("docs/PROOFS.md"))
     told = [int(number.replace(",", "")) for number in found.groups()] if found else [0, 0]
-    for number, count, what in zip(told, (functions, proofs), ("functions", "functions with a proof file"), strict=True):
+    both = ((functions, "functions"), (proofs, "functions with a proof file"))
+    for number, (count, what) in zip(told, both, strict=True):
         if abs(number - count) > count / 10:
             yield f"docs/PROOFS.md: some {number} {what}, and there are {count}"
     if not floors.is_drawn():
@@ -138,9 +140,13 @@ def long() -> Iterator[str]:
             yield f"CHANGELOG.md:{number}: a line of {words(line)} words, of {MOST_IN_LINE}"
 
 
+def without_blocks(page: Path) -> str:
+    return re.sub(r"^```.*?^```", "", page.read_text(encoding="utf-8"), flags=re.M | re.S)
+
+
 def anchors(page: Path) -> set[str]:
     """The names of a page's headings in links, as GitHub makes them."""
-    headings = re.findall(r"^#+ (.+)$", re.sub(r"^```.*?^```", "", page.read_text(encoding="utf-8"), flags=re.M | re.S), re.M)
+    headings = re.findall(r"^#+ (.+)$", without_blocks(page), re.M)
     plain = [re.sub(r"\[([^\]]*)\]\([^)]*\)", r"\1", heading).lower() for heading in headings]
     return {re.sub(r"[^\w -]", "", heading).replace(" ", "-") for heading in plain}
 
@@ -148,8 +154,7 @@ def anchors(page: Path) -> set[str]:
 def broken() -> Iterator[str]:
     folders = ("*.md", "docs/*.md", "bench/**/*.md", "model/*.md", "crates/*/*.md", "tests/**/*.md")
     for page in sorted(path for folder in folders for path in ROOT.glob(folder) if "out" not in path.parts):
-        text = re.sub(r"^```.*?^```", "", page.read_text(encoding="utf-8"), flags=re.M | re.S)
-        for target in re.findall(r"\]\((?!https?:|mailto:)([^)\s]+)\)", text):
+        for target in re.findall(r"\]\((?!https?:|mailto:)([^)\s]+)\)", without_blocks(page)):
             name, _, anchor = target.partition("#")
             path = (page.parent / name).resolve() if name else page
             if not path.exists():

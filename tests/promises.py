@@ -1,19 +1,21 @@
 #!/usr/bin/env python3
-"""Checks the names in docs/PROMISES.md and docs/TESTED.md against the crates: functions and the clauses beside them, lemmas, tests, lines of
-scripts and must-fail edits.
+"""Checks the names in docs/PROMISES.md and docs/TESTED.md against the crates: functions and the clauses beside them,
+lemmas, tests, lines of scripts and must-fail edits.
 
     python3 tests/promises.py
 
-It reads the tables' cells. `crate::Type::function` (`clause`, ..) is a function of that crate whose contract has these clauses, lemma `name`
-of `crate` a lemma in its proofs/, `tests_..` (`name`, ..) tests of that crate, `tests_..` (rows `name`, ..) rows of the tables that its
-tests run, `.._runs` (lines `word`, ..) lines of its script that begin with the word, `.._runs` (part `name`, lines `word`, ..) and part `name` of
-`.._runs` (lines `word`, ..) those of that part, and `.._runs` (blocks `name`, ..) functions of the models that write such lines. The table of
-wrong bodies in TESTED.md has to name just the edits in crates/*/must-fail, and the section Trusted in PROMISES.md just the ported crates on which
-a crate of crates.txt stands. It prints what it doesn't find, and ends with 1 then.
+`crate::Type::function` (`clause`, ..) is a function of that crate whose contract has these clauses, lemma `name` of
+`crate` a lemma in its proofs/, `tests_..` (`name`, ..) tests of that crate, `tests_..` (rows `name`, ..) rows of the
+tables that its tests run, `.._runs` (lines `word`, ..) lines of its script that begin with the word, `.._runs` (part
+`name`, lines `word`, ..) and part `name` of `.._runs` (lines `word`, ..) those of that part, and `.._runs` (blocks
+`name`, ..) functions of the models that write such lines. The table of wrong bodies in TESTED.md has to name just the
+edits in crates/*/must-fail, and the section Trusted in PROMISES.md just the ported crates on which a crate of
+crates.txt stands. It prints what it doesn't find, and ends with 1 then.
 """
 import functools
 import re
 import sys
+from collections.abc import Iterator
 from pathlib import Path
 
 ROOT = Path(__file__).resolve().parents[1]
@@ -22,7 +24,7 @@ NAME = r"`((?:\w+::)+\w+)`"
 LIST = r"(?: \(((?:`\w+`(?:, )?)+)\))?"
 
 
-def fields_of(crate, record):
+def fields_of(crate: str, record: str) -> list[str]:
     """The names of the fields of a record in a crate's specs/."""
     texts = [specs.read_text() for specs in (CRATES / crate / "specs").rglob("*.antt")]
     bodies = [body for text in texts for body in re.findall(rf"^ *pub record {record} .*\n(?:.+\n)*", text, re.M)]
@@ -30,11 +32,12 @@ def fields_of(crate, record):
 
 
 @functools.cache
-def functions_of(crate):
-    """The names of a crate's functions, each with the clauses of all functions of that name. A clause that is a record counts as its fields too."""
-    found = {}
+def functions_of(crate: str) -> dict[str, list[str]]:
+    """The names of a crate's functions, each with the clauses of all functions of that name. A clause that is a record
+    counts as its fields too."""
+    found: dict[str, list[str]] = {}
     for source in (CRATES / crate / "src").rglob("*.rt"):
-        clauses = None
+        clauses: list[str] | None = None
         for line in source.read_text().splitlines():
             declared = re.match(r"\s*(?:pub(?:\(\w+\))? )?(?:const )?fn (\w+)", line)
             if declared:
@@ -49,30 +52,31 @@ def functions_of(crate):
 
 
 @functools.cache
-def lemmas_of(crate):
+def lemmas_of(crate: str) -> set[str]:
     """The names of a crate's public lemmas."""
     texts = [proof.read_text() for proof in (CRATES / crate / "proofs").rglob("*.antt")]
     return {name for text in texts for name in re.findall(r"^ *pub ([\w-]+) :", text, re.M)}
 
 
 @functools.cache
-def tests_of(crate):
+def tests_of(crate: str) -> set[str]:
     """The names of a crate's tests."""
     texts = [source.read_text() for source in (CRATES / crate / "src").rglob("*.rt")]
     return {name for text in texts for name in re.findall(r"#\[test\]\s*(?:#\[[^\n]*\]\s*)*(?:pub )?fn (\w+)", text)}
 
 
 @functools.cache
-def rows_of(crate):
+def rows_of(crate: str) -> set[str]:
     """The names of the rows of a crate's tables, which end where a name has a comma."""
     texts = [source.read_text() for source in (CRATES / crate / "src").rglob("*.rt")]
     return {name for text in texts for name in re.findall(r'^ *name: "(\w+)', text, re.M)}
 
 
 @functools.cache
-def words_of(crate, part):
+def words_of(crate: str, part: str) -> set[str]:
     """The words with which lines of a script begin, or of a part of it, each call of a line that has several."""
-    found, now = set(), ""
+    found: set[str] = set()
+    now = ""
     for line in (CRATES / crate / "stdin").read_text().splitlines():
         if line.startswith("part "):
             now = line.removeprefix("part ")
@@ -82,19 +86,21 @@ def words_of(crate, part):
 
 
 @functools.cache
-def blocks_of(crate):
-    """The names of the functions of the models that write a script: of modules `NAME_..` where `NAME_script` has it as its crate."""
+def blocks_of(crate: str) -> set[str]:
+    """The names of the functions of the models that write a script: of modules `NAME_..` where `NAME_script` has it as
+    its crate."""
     models = ROOT / "model"
-    names = [model.stem.removesuffix("script") for model in models.glob("*_script.py") if f'= "{crate}"' in model.read_text()]
+    scripts = [path for path in models.glob("*_script.py") if f'= "{crate}"' in path.read_text()]
+    names = [script.stem.removesuffix("script") for script in scripts]
     texts = [model.read_text() for name in names for model in models.glob(f"{name}*.py")]
     return {name for text in texts for name in re.findall(r"^def (\w+)\(", text, re.M)}
 
 
-def listed(text):
+def listed(text: str | None) -> list[str]:
     return re.findall(r"`(\w+)`", text or "")
 
 
-def missing_in(text):
+def missing_in(text: str) -> Iterator[str]:
     """What the page names and the crates don't have."""
     for name, clauses in re.findall(NAME + LIST, text):
         crate, function = name.split("::")[0], name.split("::")[-1]
@@ -109,8 +115,7 @@ def missing_in(text):
     for name, crate in re.findall(r"lemma `(\w+)` of `(\w+)`", text):
         if name not in lemmas_of(crate):
             yield f"lemma {name} of {crate}"
-    for table in re.findall(r"^\| Lemma of `(\w+)` \|.*\n(?:\|.*\n)+", text, re.M):
-        rows = re.search(rf"^\| Lemma of `{table}` \|.*\n\|-.*\n((?:\|.*\n)+)", text, re.M).group(1)
+    for table, rows in re.findall(r"^\| Lemma of `(\w+)` \|.*\n\|-.*\n((?:\|.*\n)+)", text, re.M):
         names = [name for row in rows.splitlines() for name in listed(row.split("|")[1])]
         yield from (f"lemma {name} of {table}" for name in names if name not in lemmas_of(table))
     for crate, tests in re.findall(r"`(tests_\w+)` \(((?:`\w+`(?:, )?)+)\)", text):
@@ -125,23 +130,26 @@ def missing_in(text):
         yield from (f"block {block} of {crate}" for block in listed(blocks) if block not in blocks_of(crate))
 
 
-def ported():
+def ported() -> set[str]:
     """The crates of the kit that crates.txt names."""
-    lines = [line.partition(":") for line in (ROOT / "crates.txt").read_text().splitlines() if line and not line.startswith("#")]
+    text = (ROOT / "crates.txt").read_text()
+    lines = [line.partition(":") for line in text.splitlines() if line and not line.startswith("#")]
     return {name for _, _, below in lines for name in below.split()} - {name.split()[0] for name, _, _ in lines}
 
 
-def untrusted(text):
+def untrusted(text: str) -> Iterator[str]:
     """How the section Trusted differs from the ported crates that are used."""
-    said = set(listed(re.search(r"^## Trusted\n.*?\(((?:`\w+`(?:, )?)+)\)", text.replace("that `crates.txt` names", ""), re.M | re.S).group(1)))
+    section = re.search(r"^## Trusted\n.*?\(((?:`\w+`(?:, )?)+)\)", text, re.M | re.S)
+    said = set(listed(section.group(1) if section else None))
     yield from (f"ported crate {name} in the section Trusted" for name in ported() - said)
     yield from (f"use of the ported crate {name}, which the section Trusted names," for name in said - ported())
 
 
-def untried(text):
+def untried(text: str) -> Iterator[str]:
     """How the table of wrong bodies differs from the edits that the gate tries."""
-    rows, said, crate = re.search(r"^\| Crate \| Edit \|.*\n\|-.*\n((?:\|.*\n)+)", text, re.M).group(1), set(), ""
-    for row in rows.splitlines():
+    table = re.search(r"^\| Crate \| Edit \|.*\n\|-.*\n((?:\|.*\n)+)", text, re.M)
+    said, crate = set(), ""
+    for row in table.group(1).splitlines() if table else []:
         first, edit = (cell.strip(" `") for cell in row.split("|")[1:3])
         crate = first or crate
         said.add((crate, edit))
@@ -150,13 +158,14 @@ def untried(text):
     yield from (f"must-fail edit {edit} of {crate}, which TESTED.md names," for crate, edit in said - kept)
 
 
-def main():
+def main() -> None:
     promises, tested = ((ROOT / "docs" / name).read_text() for name in ("PROMISES.md", "TESTED.md"))
     missing = sorted({*missing_in(promises), *missing_in(tested), *untrusted(promises), *untried(tested)})
     for name in missing:
         print(name)
     pages = "docs/PROMISES.md and docs/TESTED.md"
-    print(f"{len(missing)} names of {pages} aren't in the crates" if missing else f"each name of {pages} is in the crates")
+    wrong = f"{len(missing)} names of {pages} aren't in the crates"
+    print(wrong if missing else f"each name of {pages} is in the crates")
     sys.exit(1 if missing else 0)
 
 
