@@ -4,7 +4,7 @@
   names: the libraries of the kit, and those built in this clone.
 - bench/README.md names each folder of bench/, METHOD.md each of its scripts and tools, model/README.md each model.
 - PROOFS.md counts functions and proofs within a tenth, and docs/pictures/crates.svg is what tools/floors.py draws.
-- Versions of CHANGELOG.md have dates, and its lines at most forty words.
+- The newest version of CHANGELOG.md is vtmap's, its versions have dates, and its lines at most forty words.
 - Each page has at most the words of LIMITS. A word has a letter or a digit.
 - Each link of a page leads to a file, and to a heading where it names one.
 """
@@ -133,6 +133,9 @@ def long() -> Iterator[str]:
         count = words(read(page))
         if count > most:
             yield f"{page} has {count} words, of {most}"
+    newest = re.search(r"^## ([\d.]+)", read("CHANGELOG.md"), re.M)
+    if not newest or f'VERSION = "{newest.group(1)}"' not in read("vtmap/__init__.py"):
+        yield "CHANGELOG.md: its newest version isn't that of vtmap"
     for number, line in enumerate(read("CHANGELOG.md").splitlines(), 1):
         if line.startswith("## ") and not re.search(r"\b20\d\d\b", line):
             yield f"CHANGELOG.md:{number}: a version without a date"

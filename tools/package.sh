@@ -15,7 +15,7 @@ commit=$(git -C "$top" rev-parse --short=10 HEAD)
 export SOURCE_DATE_EPOCH=${SOURCE_DATE_EPOCH:-$(git -C "$top" log -1 --format=%ct)}
 maintainer="${DEBFULLNAME:-$(git -C "$top" log -1 --format=%an)} <${DEBEMAIL:-$(git -C "$top" log -1 --format=%ae)}>"
 
-for other in "$("$top/bin/vtmap" --version | cut -d ' ' -f 2)" "$(sed -n 's/^## //p' "$top/CHANGELOG.md" | head -n 1)"; do
+for other in "$("$top/bin/vtmap" --version | cut -d ' ' -f 2)" "$(sed -n 's/^## \([0-9.]*\).*/\1/p' "$top/CHANGELOG.md" | head -n 1)"; do
     if [ "$other" != "$version" ]; then
         echo "package.sh: $program is $version, and vtmap or CHANGELOG.md $other" >&2
         exit 1
