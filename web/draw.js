@@ -1,8 +1,13 @@
 // Draws decoded tiles, names, and the shape that is edited.
+import { each } from "./slices.js";
 import { isOutline, width } from "./style.js";
 import { bounds } from "./world.js";
 
 export const EXTENT = 4096;
+// Features that are prepared without a stop, points that are drawn at once, and names that are looked at and written without a stop.
+const FEATURES_AT_ONCE = 200, POINTS_AT_ONCE = 2000, NAMES_AT_ONCE = 100;
+// Pixels of a square in which names are sought that are in the way of another one.
+const CELL = 64;
 export const MINE = "#d4007a", THEIRS = "#0057b8";
 
 /** Adds lists of points to a path: rings if they are closed. */
@@ -14,29 +19,46 @@ function trace(path, chains, isClosed) {
     }
 }
 
-/** What is drawn of a tile: for each rule its paths and points in units of the tile, and the names. */
-export function prepare(layers, style) {
-    const rules = style.rules.map(() => ({ area: new Path2D(), edge: new Path2D(), line: new Path2D(), points: [] })), names = [];
+/** Adds a feature's lists of points to what is drawn at once, or begins the next such part: of each its points, its path and the box of both. */
+function add(parts, chains, isClosed) {
+    if (!parts.length || parts.at(-1).points.length > POINTS_AT_ONCE) {
+        parts.push({ points: [], path: new Path2D(), box: bounds([]) });
+    }
+    const part = parts.at(-1), points = chains.flat();
+    trace(part.path, chains, isClosed);
+    part.points.push(...points);
+    part.box = bounds([part.box.slice(0, 2), part.box.slice(2), ...points]);
+}
+
+// The tiles that were prepared so far.
+let count = 0;
+
+/**
+ * What is drawn of a tile: for each rule its parts in units of the tile, the names, and a number of its own. Of see-through areas that overlap and are
+ * in two parts, the second lets the first show.
+ */
+export function* prepared(layers, style) {
+    const rules = style.rules.map(() => ({ area: [], edge: [], line: [], points: [] })), names = [];
     for (const { name: layer, features } of layers) {
-        for (const { id, kind, chains, tags } of features) {
+        yield* each(features, FEATURES_AT_ONCE, ({ id, kind, chains, tags }) => {
             const place = style.placeOf(layer, tags), rule = style.rules[place], drawn = rules[place];
             if (!rule) {
-                continue;
+                return;
             }
             if (kind === "polygons") {
-                trace(drawn.area, chains, true);
-                "whole" in tags || trace(drawn.edge, chains, true);
+                add(drawn.area, chains, true);
+                "whole" in tags || add(drawn.edge, chains, true);
             } else if (kind === "lines") {
-                trace(isOutline(layer) ? drawn.edge : drawn.line, chains, false);
+                add(isOutline(layer) ? drawn.edge : drawn.line, chains, false);
             } else {
-                drawn.points.push(...chains.flat());
+                add(drawn.points, chains, false);
             }
             if (rule.name in tags && !isOutline(layer)) {
                 names.push({ key: tags.whole ?? id, text: String(tags[rule.name]), from: rule.from ?? 0, kind, ...nameOf(kind, chains) });
             }
-        }
+        });
     }
-    return { rules, names };
+    return { rules, names, number: ++count };
 }
 
 /** Where a feature's name is written: at its point, in the middle of its box, or along the longest segment of its lines. */
@@ -66,27 +88,31 @@ function dot(context, [x, y], radius, colour, unit) {
     stroke(context, null, "#ffffff", 1.5 * unit);
 }
 
-/** Draws a tile. The context has the tile's units; a pixel has `unit` of them. */
-export function drawTile(context, { rules }, style, zoom, unit) {
+/** Draws a tile, or what of it meets a box of its units. The context has the tile's units; a pixel has `unit` of them. */
+export function* drawTile(context, { rules }, style, zoom, unit, [west, north, east, south]) {
     context.lineJoin = context.lineCap = "round";
-    for (const [at, parts] of style.order) {
-        const { area, edge, line, points } = rules[at], rule = style.rules[at], pixels = width(rule, zoom);
-        if (parts.includes("areas")) {
+    for (const [at, kinds] of style.order) {
+        const { area, edge, line, points } = rules[at], rule = style.rules[at], pixels = width(rule, zoom), reach = (pixels + 12) * unit;
+        const meets = ({ box }) => box[0] <= east + reach && box[2] >= west - reach && box[1] <= south + reach && box[3] >= north - reach;
+        const draw = (parts, colour, action) => each(colour ? parts.filter(meets) : [], 1, action);
+        if (kinds.includes("areas")) {
             context.fillStyle = rule.area;
-            rule.area && context.fill(area);
-            rule.edge && stroke(context, edge, rule.edge, unit);
+            yield* draw(area, rule.area, ({ path }) => context.fill(path));
+            yield* draw(edge, rule.edge, ({ path }) => stroke(context, path, rule.edge, unit));
         }
-        if (parts.includes("lines")) {
-            rule.casing && stroke(context, line, rule.casing, (pixels + 1.5) * unit);
-            rule.line && stroke(context, line, rule.line, pixels * unit);
+        if (kinds.includes("lines")) {
+            yield* draw(line, rule.casing, ({ path }) => stroke(context, path, rule.casing, (pixels + 1.5) * unit));
+            yield* draw(line, rule.line, ({ path }) => stroke(context, path, rule.line, pixels * unit));
         }
-        parts.includes("points") && rule.point && points.forEach(point => dot(context, point, 5, rule.point, unit));
+        if (kinds.includes("points")) {
+            yield* draw(points, rule.point, part => part.points.forEach(point => dot(context, point, 5, rule.point, unit)));
+        }
     }
 }
 
-/** Marks the features of a tile that are selected. A piece of a cut polygon has no edge: the outline of the whole is a line. */
-export function markTile(context, layers, isSelected, unit) {
-    for (const { kind, chains, tags } of layers.flatMap(({ features }) => features.filter(isSelected))) {
+/** Marks some features of a tile. A piece of a cut polygon has no edge: the outline of the whole is a line. */
+export function mark(context, features, unit) {
+    for (const { kind, chains, tags } of features) {
         const path = new Path2D();
         trace(path, chains, kind === "polygons");
         kind === "points" && chains.forEach(([point]) => dot(context, point, 8, MINE, unit));
@@ -96,18 +122,42 @@ export function markTile(context, layers, isSelected, unit) {
     }
 }
 
-/** Writes names at points of the screen: each feature's once, none over another, and along a line only if it is long enough. */
-export function drawNames(context, names) {
-    const taken = [], written = new Set();
+/** Boxes of the screen, none of which may lie over another. */
+class Taken {
+    cells = new Map();
+
+    /** Whether a box is free, which is taken then if it `isWanted`. */
+    isFree(box, isWanted) {
+        const [west, north, east, south] = box.map(at => Math.floor(at / CELL)), names = [];
+        for (let row = north; row <= south; row++) {
+            for (let column = west; column <= east; column++) {
+                names.push(`${column} ${row}`);
+            }
+        }
+        const isApart = other => box[0] > other[2] || box[2] < other[0] || box[1] > other[3] || box[3] < other[1];
+        const isFree = names.every(name => (this.cells.get(name) ?? []).every(isApart));
+        isFree && isWanted && names.forEach(name => this.cells.has(name) ? this.cells.get(name).push(box) : this.cells.set(name, [box]));
+        return isFree;
+    }
+}
+
+/**
+ * Writes the names of tiles that are in a box of the screen: each feature's once, none over another, those of points first, and along a line only if it
+ * is long enough. Of each tile it is given what is `drawn` of it, and the square that it has on the screen.
+ */
+export function* drawNames(context, tiles, zoom, [west, north, east, south]) {
+    const taken = new Taken(), written = new Set();
     Object.assign(context, { font: '12px "DejaVu Sans", Verdana, sans-serif', textBaseline: "middle", lineJoin: "round", lineWidth: 3 });
-    for (const { key, text, kind, x, y, turn, length } of names) {
+    const write = ({ key, text, kind, at, turn, length, from: first }, { left: west0, top: north0, side, from, part }) => {
+        const unit = part / side, x = west0 + (at[0] - from[0]) / unit, y = north0 + (at[1] - from[1]) / unit;
+        // Most names of a full map are in the way of another one: that their own place is taken costs least to know.
+        if (first > zoom || written.has(key) || x < west || x > east || y < north || y > south || !taken.isFree([x, y, x, y], false)) {
+            return;
+        }
         const wide = context.measureText(text).width, left = kind === "points" ? 9 : -wide / 2;
         const across = Math.abs(Math.cos(turn)) * wide / 2 + 4, high = Math.abs(Math.sin(turn)) * wide / 2 + 8, middle = x + left + wide / 2;
-        const box = [middle - across, y - high, middle + across, y + high];
-        const isFree = taken.every(other => box[0] > other[2] || box[2] < other[0] || box[1] > other[3] || box[3] < other[1]);
-        if (isFree && !written.has(key) && !(length < wide)) {
+        if (!(length / unit < wide) && taken.isFree([middle - across, y - high, middle + across, y + high], true)) {
             written.add(key);
-            taken.push(box);
             context.save();
             context.translate(x, y);
             context.rotate(turn);
@@ -116,6 +166,11 @@ export function drawNames(context, names) {
             context.fillStyle = "#222222";
             context.fillText(text, left, 0);
             context.restore();
+        }
+    };
+    for (const arePoints of [true, false]) {
+        for (const tile of tiles) {
+            yield* each(tile.tile.drawn.names, NAMES_AT_ONCE, name => (name.kind === "points") === arePoints && write(name, tile));
         }
     }
 }

@@ -14,9 +14,9 @@ export class Neighbours {
         Object.assign(this, { view, server, own, known: new Map(), asked: new Map(), touching: new Set() });
     }
 
-    /** The features of others in some squares of the view. */
-    others(squares) {
-        return squares.flatMap(square => this.view.featuresOf(square)).filter(({ id, tags }) => id !== this.own && tags.whole !== this.own);
+    /** The features of others in some squares of the view, or those of them whose box meets one of the screen. */
+    others(squares, box) {
+        return squares.flatMap(square => this.view.featuresOf(square, box)).filter(({ id, tags }) => id !== this.own && tags.whole !== this.own);
     }
 
     /** A feature as the map has it, or null. */
@@ -37,7 +37,8 @@ export class Neighbours {
      */
     cornerAt(place) {
         const point = this.view.toScreen(place), found = { corner: [Infinity, Infinity] };
-        for (const { id, chains } of this.others(this.view.squaresAt(point, SNAP))) {
+        const [x, y] = point;
+        for (const { id, chains } of this.others(this.view.squaresAt(point, SNAP), [x - SNAP, y - SNAP, x + SNAP, y + SNAP])) {
             const corner = nearest(chains.flat(), point);
             far(corner, point) < Math.min(far(found.corner, point), SNAP) && Object.assign(found, { id, corner });
         }
@@ -54,7 +55,7 @@ export class Neighbours {
     look(geometry) {
         const own = pointsOf(geometry).map(this.view.toScreen), [west, north, east, south] = bounds(own);
         const isNear = ([x, y]) => x >= west - SAME && x <= east + SAME && y >= north - SAME && y <= south + SAME;
-        for (const { id, tags, chains } of this.others(this.view.squares())) {
+        for (const { id, tags, chains } of this.others(this.view.squares(), [west - SAME, north - SAME, east + SAME, south + SAME])) {
             "whole" in tags || chains.flat().filter(isNear).some(corner => far(nearest(own, corner), corner) < SAME) && this.touching.add(id);
         }
     }

@@ -46,7 +46,7 @@ function select(point, isFree = false, isTouched = false) {
         return;
     }
     const wide = isTouched ? 2 : 1;
-    const found = view.near(point).map(feature => ({ ...feature, id: feature.tags.whole ?? feature.id, own: feature.id, rank: rank(point, feature, wide) }));
+    const found = view.near(point, 11 * wide).map(feature => ({ ...feature, id: feature.tags.whole ?? feature.id, own: feature.id, rank: rank(point, feature, wide) }));
     const hit = found.filter(({ rank }) => rank < Infinity).sort((one, other) => one.rank - other.rank);
     const before = Math.hypot(point[0] - clicked.at[0], point[1] - clicked.at[1]) < 4 ? clicked.ids : [];
     selected = hit.find(({ id }) => !before.includes(id)) ?? hit[0] ?? null;
@@ -238,7 +238,7 @@ async function start() {
         },
         failed: fault => isAway || tell(texts.noTile(fault.message), true),
     });
-    view.isSelected = ({ id, tags }) => !editor.draft && (tags.whole ?? id) === selected?.id && !byId("panel").hidden;
+    view.selected = () => editor.draft || byId("panel").hidden ? null : selected?.id;
     here = new Here(view);
     editor = new Editor(view, server, () => layers, showEdit);
     keys = new Keys(view, editor, select);

@@ -1,4 +1,8 @@
 // Decodes a vector tile as vtserve encodes it (Mapbox Vector Tile 2.1).
+import { each } from "./slices.js";
+
+// How many features, or values, are decoded without a stop, and fields of a layer.
+const AT_ONCE = 200, FIELDS_AT_ONCE = 4000;
 const text = (decoder => bytes => decoder.decode(bytes))(new TextDecoder());
 const KINDS = [null, "points", "lines", "polygons"];
 
@@ -32,13 +36,28 @@ function integers(bytes) {
     return found;
 }
 
-/** The fields of a message: a function from a field's number to its values, each an integer or bytes. */
+/** Reads so many fields of a message, each an integer or bytes, into lists by their numbers. */
+function read(reader, found, most) {
+    for (let count = 0; reader.hasMore && count < most; count++) {
+        const key = reader.varint(), value = reader.varint(), isBytes = (key & 7) === 2;
+        (found[key >> 3] ??= []).push(isBytes ? reader.bytes.subarray(reader.at, reader.at + value) : value);
+        reader.at += isBytes ? value : 0;
+    }
+}
+
+/** The fields of a message: a function from a field's number to its values. */
 function message(bytes) {
+    const found = [];
+    read(new Reader(bytes), found, Infinity);
+    return number => found[number] ?? [];
+}
+
+/** The same of a long message, read a part at a time. */
+function* longMessage(bytes) {
     const reader = new Reader(bytes), found = [];
     while (reader.hasMore) {
-        const key = reader.varint(), value = reader.varint(), isBytes = (key & 7) === 2;
-        (found[key >> 3] ??= []).push(isBytes ? bytes.subarray(reader.at, reader.at + value) : value);
-        reader.at += isBytes ? value : 0;
+        read(reader, found, FIELDS_AT_ONCE);
+        yield;
     }
     return number => found[number] ?? [];
 }
@@ -73,10 +92,24 @@ function featureOf(bytes, keys, values) {
     return { id: all(1)[0], kind: KINDS[all(3)[0]], chains: chains(all(4).flatMap(integers)), tags: Object.fromEntries(tags) };
 }
 
-/** The layers of a tile: the name of each, and its features with id, kind, lists of points and tags. */
+/** The layers of a tile, decoded a part at a time: the name of each, and its features with id, kind, lists of points and tags. */
+export function* decoded(bytes) {
+    const found = [];
+    for (const layer of message(bytes)(3)) {
+        const all = yield* longMessage(layer), keys = all(3).map(text), values = [], features = [];
+        yield* each(all(4), AT_ONCE, row => values.push(valueOf(row)));
+        yield* each(all(2), AT_ONCE, row => features.push(featureOf(row, keys, values)));
+        found.push({ name: text(all(1)[0]), features });
+    }
+    return found;
+}
+
+/** The layers of a tile at once. */
 export function decode(bytes) {
-    return message(bytes)(3).map(layer => {
-        const all = message(layer), keys = all(3).map(text), values = all(4).map(valueOf);
-        return { name: text(all(1)[0]), features: all(2).map(row => featureOf(row, keys, values)) };
-    });
+    const parts = decoded(bytes);
+    for (let part = parts.next(); ; part = parts.next()) {
+        if (part.done) {
+            return part.value;
+        }
+    }
 }

@@ -1,8 +1,10 @@
 // The view of the map: where it is, the tiles that it shows, and what mouse and wheel do to it.
 import { Backdrop } from "./backdrop.js";
-import { EXTENT, drawNames, drawTile, markTile, prepare } from "./draw.js";
+import { EXTENT, mark } from "./draw.js";
+import { Raster } from "./raster.js";
 import { pointsOf } from "./shape.js";
-import { decode } from "./tile.js";
+import { Slices } from "./slices.js";
+import { decoded } from "./tile.js";
 import { WORLD, bounds, fromDegrees, toDegrees } from "./world.js";
 
 // Pixels of a tile at its own zoom, the greatest zoom of the view, tiles that are kept, how many zooms up a substitute is sought, and how many
@@ -10,6 +12,8 @@ import { WORLD, bounds, fromDegrees, toDegrees } from "./world.js";
 const SIDE = 512, MAX_ZOOM = 21, MAX_TILES = 300, MAX_UP = 5, TAGS_UP = 2;
 // Seconds after which no cache has a tile from before an edit: ten in that of nginx, and no more in the browser's.
 const CACHED = 12;
+// Milliseconds of a frame in which tiles are decoded and drawn.
+const WORK = 12;
 // The part of a tile's side by which the box of a feature is taken larger: a tile has what reaches into it.
 const MARGIN = 1 / 16;
 const clamped = (value, least, greatest) => Math.min(Math.max(value, least), greatest);
@@ -25,6 +29,20 @@ function isTouched(name, { layers }, changes) {
     return layers.some(({ features }) => features.some(({ id }) => ids.has(id))) || changes.some(({ feature }) => feature && meets(feature));
 }
 
+/** Whether the box of lists of points meets a box. */
+function meets(chains, [[west, north], [east, south]]) {
+    let [left, top, right, bottom] = [Infinity, Infinity, -Infinity, -Infinity];
+    for (const chain of chains) {
+        for (const [x, y] of chain) {
+            left = x < left ? x : left;
+            right = x > right ? x : right;
+            top = y < top ? y : top;
+            bottom = y > bottom ? y : bottom;
+        }
+    }
+    return left <= east && right >= west && top <= south && bottom >= north;
+}
+
 export class View {
     /**
      * `hooks`: what a click does (`select`), what a drag moves (`grab`), what is drawn above (`over`), and what reports a fault (`failed`). The first two
@@ -33,8 +51,11 @@ export class View {
     constructor(canvas, server, style, hooks) {
         Object.assign(this, { canvas, server, style, hooks, context: canvas.getContext("2d"), centre: [WORLD / 2, WORLD / 2], zoom: 1 });
         // The tiles by their names: the `edit` of which each is, its `tag`, its `layers`, what is `drawn` of them, when it was `asked` for, and the
-        // request that `loads` it. `tags`: those of the tiles above, as they were when the tiles in view were asked for.
-        Object.assign(this, { tiles: new Map(), tags: new Map(), edit: 0, maxzoom: 0, isSelected: () => false });
+        // request that `loads` it. `tags`: those of the tiles above, as they were when the tiles in view were asked for. `selected()`: the id of the
+        // feature that is marked, if there is one.
+        Object.assign(this, { tiles: new Map(), tags: new Map(), edit: 0, maxzoom: 0, selected: () => null });
+        this.slices = new Slices(() => this.redraw());
+        this.raster = new Raster(style, this.slices, hooks.failed);
         this.backdrop = style.backdrop && new Backdrop(style.backdrop, () => this.redraw());
         this.toScreen = point => point.map((part, axis) => (part - this.centre[axis]) * this.scale + this.middle[axis]);
         this.listen();
@@ -104,7 +125,7 @@ export class View {
 
     /** Draws the tiles in a changed style. */
     restyle() {
-        this.tiles.forEach(tile => tile.drawn = null);
+        this.raster.restyle();
         this.redraw();
     }
 
@@ -149,7 +170,8 @@ export class View {
 
     /** What there is to draw in a square: its tile, or the part of one above it that begins `from` there and is `part` long. */
     contentOf({ z, column, row, side }) {
-        for (let up = 0; up <= Math.min(z, MAX_UP); up++) {
+        const first = Math.max(z - this.tileZoom, 0);
+        for (let up = first; up <= Math.min(z, first + MAX_UP); up++) {
             const tile = this.tiles.get(`${z - up}/${column >> up}/${row >> up}`), part = EXTENT / 2 ** up;
             if (tile?.layers) {
                 return { tile, part, from: [column % 2 ** up * part, row % 2 ** up * part], unit: part / side };
@@ -159,40 +181,40 @@ export class View {
     }
 
     draw() {
-        const { canvas, context, style } = this, ratio = devicePixelRatio, names = [], squares = this.squares();
-        [canvas.width, canvas.height] = this.middle.map(half => Math.round(2 * half * ratio));
+        this.slices.run(WORK);
+        const { canvas, context, style } = this, ratio = devicePixelRatio, size = this.middle.map(half => 2 * half);
+        const [wide, high] = size.map(length => Math.round(length * ratio));
+        canvas.width === wide && canvas.height === high || Object.assign(canvas, { width: wide, height: high });
+        context.setTransform(1, 0, 0, 1, 0, 0);
         context.fillStyle = style.background;
-        context.fillRect(0, 0, canvas.width, canvas.height);
+        context.fillRect(0, 0, wide, high);
         this.isPlaced && this.backdrop?.draw(context, this, ratio);
-        this.load(squares.map(nameOf));
-        for (const square of squares) {
-            const content = this.contentOf(square);
-            if (content) {
-                this.drawSquare(square, content, ratio);
-                names.push(...content.tile.drawn.names.filter(name => name.from <= this.zoom).map(({ at, length, ...name }) => ({
-                    ...name, length: length / content.unit,
-                    x: square.left + (at[0] - content.from[0]) / content.unit, y: square.top + (at[1] - content.from[1]) / content.unit,
-                })));
-            }
-        }
+        this.load(this.squares().map(nameOf));
+        // Tiles of the last zoom of the map are larger than a square beyond it.
+        const squares = this.squares(Math.floor(this.zoom)).map(square => ({ ...square, content: this.contentOf(square) }));
+        this.raster.draw(context, squares, this.zoom, ratio);
+        squares.filter(({ content }) => content).forEach(square => this.markSquare(square, ratio));
+        this.raster.drawNames(context, squares, this, size, ratio);
         context.setTransform(ratio, 0, 0, ratio, 0, 0);
-        drawNames(context, names.sort((one, other) => (other.kind === "points") - (one.kind === "points")));
         this.hooks.over(context);
     }
 
-    /** Draws the content of a square, whose sides are whole pixels of the screen, so that no gap shows between two. */
-    drawSquare({ left, top, side }, { tile, part, from, unit }, ratio) {
-        const { context } = this, [west, north, east, south] = [left, top, left + side, top + side].map(at => Math.round(at * ratio));
-        const [wide, high] = [(east - west) / part, (south - north) / part];
-        context.save();
-        context.beginPath();
-        context.rect(west, north, east - west, south - north);
-        context.clip();
-        context.setTransform(wide, 0, 0, high, west - from[0] * wide, north - from[1] * high);
-        tile.drawn ??= prepare(tile.layers, this.style);
-        drawTile(context, tile.drawn, this.style, this.zoom, unit);
-        markTile(context, tile.layers, this.isSelected, unit);
-        context.restore();
+    /** Marks what is selected of a square. */
+    markSquare({ left, top, side, content: { tile, part, from, unit } }, ratio) {
+        const { context } = this, id = this.selected() ?? null, [west, north, long] = [left, top, side].map(at => at * ratio), scale = long / part;
+        if (tile.marked?.id !== id || tile.marked.layers !== tile.layers) {
+            const isOf = feature => (feature.tags.whole ?? feature.id) === id;
+            tile.marked = { id, layers: tile.layers, features: id === null ? [] : tile.layers.flatMap(({ features }) => features.filter(isOf)) };
+        }
+        if (tile.marked.features.length) {
+            context.save();
+            context.beginPath();
+            context.rect(west, north, long, long);
+            context.clip();
+            context.setTransform(scale, 0, 0, scale, west - from[0] * scale, north - from[1] * scale);
+            mark(context, tile.marked.features, unit);
+            context.restore();
+        }
     }
 
     /** Asks for the tiles of these names that aren't of the last edit that is known, and for no other any more. */
@@ -216,7 +238,8 @@ export class View {
         const { signal } = tile.loads;
         try {
             const { tag, bytes } = await this.server.tile(name, edit, tile.tag, signal);
-            Object.assign(tile, { edit, ...(bytes ? { layers: decode(bytes), tag, drawn: null } : {}) });
+            const layers = bytes && await this.slices.done(decoded(bytes), signal);
+            Object.assign(tile, { edit, ...(layers ? { layers, tag } : {}) });
         } catch (fault) {
             signal.aborted || this.hooks.failed(fault);
             await new Promise(resolve => setTimeout(resolve, signal.aborted ? 0 : 3000));
@@ -225,9 +248,9 @@ export class View {
         this.redraw();
     }
 
-    /** The features of the tile at a point of the screen, each with its layer and its lists of points in pixels. */
-    near(point) {
-        return this.squaresAt(point, 0).flatMap(square => this.featuresOf(square));
+    /** The features within so many pixels of a point of the screen, each with its layer and its lists of points in pixels. */
+    near([x, y], reach) {
+        return this.squaresAt([x, y], reach).flatMap(square => this.featuresOf(square, [x - reach, y - reach, x + reach, y + reach]));
     }
 
     /** The squares within so many pixels of a point of the screen. */
@@ -235,11 +258,16 @@ export class View {
         return this.squares().filter(({ left, top, side }) => left <= x + reach && x - reach < left + side && top <= y + reach && y - reach < top + side);
     }
 
-    /** The features of the tile in a square that the style draws, each with its layer and its lists of points in pixels. */
-    featuresOf(square) {
+    /**
+     * The features of the tile in a square that the style draws, each with its layer and its lists of points in pixels: all, or those whose box meets
+     * one of the screen.
+     */
+    featuresOf(square, [west, north, east, south] = [-Infinity, -Infinity, Infinity, Infinity]) {
         const { tile, from, unit } = this.contentOf(square) ?? { tile: { layers: [] } };
         const toPixels = ([column, row]) => [square.left + (column - from[0]) / unit, square.top + (row - from[1]) / unit];
-        return tile.layers.flatMap(({ name, features }) => features.filter(({ tags }) => this.style.placeOf(name, tags) >= 0).map(feature => ({
+        const inTile = ([x, y]) => [(x - square.left) * unit + from?.[0], (y - square.top) * unit + from?.[1]];
+        const near = [inTile([west, north]), inTile([east, south])], isShown = (name, { chains, tags }) => meets(chains, near) && this.style.placeOf(name, tags) >= 0;
+        return tile.layers.flatMap(({ name, features }) => features.filter(feature => isShown(name, feature)).map(feature => ({
             ...feature, layer: name, chains: feature.chains.map(chain => chain.map(toPixels)),
         })));
     }
