@@ -15,6 +15,17 @@ import { PIECE, changeAll, changedOf, lost, piecesOf, wholeOf } from "./whole.js
 
 const hint = text => element("p", { className: "hint" }, text);
 
+/** The id after the greatest one in use, those of pieces aside. If somebody takes it first, an edit that puts it is refused. */
+export async function nextId(server) {
+    const { last } = await server.value("admin/status");
+    let [least, end] = last < PIECE ? [Number(last ?? 0) + 1, 0] : [1, PIECE];
+    while (least < end) {
+        const middle = Math.floor((least + end) / 2), row = await server.from(middle);
+        [least, end] = row?.id < PIECE ? [row.id + 1, end] : [least, middle];
+    }
+    return least;
+}
+
 export class Editor {
     // The draft, or null: the `feature` (null: it is to be deleted) and its `form`; its `id` (null: not known yet), what it `was` (null:
     // nothing), its `pieces` if it is cut, what was `sent` since then, earlier geometries (`undo`), whether it `isNew`, `isDrawn` just now or
@@ -164,7 +175,7 @@ export class Editor {
      * request of the draft was made and its reply was lost, the map has what was sent: then this is a change of that.
      */
     async put(draft, feature) {
-        draft.id ??= await this.nextId();
+        draft.id ??= await nextId(this.server);
         const { id, was, sent, neighbours } = draft, others = await this.alongOf(draft);
         sent.push(feature);
         draft.others = others.length;
@@ -209,17 +220,6 @@ export class Editor {
         draft.along = along;
         await Promise.all(along ? [...draft.neighbours.touching].map(id => draft.neighbours.feature(id)) : []).catch(() => {});
         this.view.redraw();
-    }
-
-    /** The id after the greatest one in use, those of pieces aside. If somebody takes it first, the edit is refused, and gets another. */
-    async nextId() {
-        const { last } = await this.server.value("admin/status");
-        let [least, end] = last < PIECE ? [Number(last ?? 0) + 1, 0] : [1, PIECE];
-        while (least < end) {
-            const middle = Math.floor((least + end) / 2), row = await this.server.from(middle);
-            [least, end] = row?.id < PIECE ? [row.id + 1, end] : [least, middle];
-        }
-        return least;
     }
 
     /** Shows both versions of a feature that somebody else has changed. What is saved from here replaces what is shown as theirs. */

@@ -1,4 +1,5 @@
 // The page: what is selected, and how the parts of this folder work together.
+import { Drop } from "./drop.js";
 import { Editor } from "./editor.js";
 import { Here } from "./here.js";
 import { Keys } from "./keys.js";
@@ -17,7 +18,7 @@ const BETWEEN_LOOKS = { editor: 4, viewer: 30 };
 // How many of the features that are found are listed.
 const MAX_FOUND = 50;
 const server = new Server(new URL("../", location.href));
-let style, view, editor, keys, here, layers;
+let style, view, editor, drop, keys, here, layers;
 // Why this machine may not edit, as `Server.status` says it, or undefined; whether the first look is over; whether the last one got no answer.
 let refused, isBegun = false, isAway = false;
 // The next look.
@@ -40,8 +41,8 @@ function rank(point, { kind, chains, tags }, wide) {
 
 /** Selects a feature at a point of the screen, the next one if one there is selected already. */
 function select(point, isFree = false, isTouched = false) {
-    if (editor.draft) {
-        editor.draft.isDrawn && editor.add(view.toWorld(point), isFree);
+    if (editor.draft || drop.file) {
+        editor.draft?.isDrawn && editor.add(view.toWorld(point), isFree);
         view.redraw();
         return;
     }
@@ -83,7 +84,7 @@ function goTo(feature) {
 
 /** Finds what a text says: the one feature, or a list of them. */
 async function find(text) {
-    if (editor.draft) {
+    if (editor.draft || drop.file) {
         throw new Error(texts.finishFirst);
     }
     const found = await search(refused ? null : server, view, text), more = found.length - MAX_FOUND;
@@ -153,12 +154,45 @@ function translate() {
     }
 }
 
+/** Takes a file that is dropped or chosen, if the person may edit. */
+async function take([file]) {
+    if (editor.hasChanges || drop.file) {
+        throw new Error(texts.finishFirst);
+    }
+    if (refused) {
+        throw new Error(refused === 401 ? texts.logInToEdit : texts.mayNotEdit);
+    }
+    editor.draft && editor.drop();
+    await drop.begin(file);
+}
+
+function listenToFiles() {
+    const chosen = byId("chosen"), takes = files => files.length && take(files).catch(fault => tell(fault.message, true));
+    const hasFiles = event => event.dataTransfer?.types.includes("Files"), mark = isOver => document.body.classList.toggle("takes", isOver);
+    byId("file").onclick = () => chosen.click();
+    chosen.onchange = () => {
+        takes([...chosen.files]);
+        chosen.value = "";
+    };
+    addEventListener("dragover", event => {
+        hasFiles(event) && event.preventDefault();
+        mark(hasFiles(event) && !refused);
+    });
+    addEventListener("dragleave", () => mark(false));
+    addEventListener("drop", event => {
+        mark(false);
+        hasFiles(event) && event.preventDefault();
+        takes([...event.dataTransfer.files]);
+    });
+}
+
 function listen() {
     byId("nearer").onclick = () => view.zoomBy(1);
     byId("farther").onclick = () => view.zoomBy(-1);
     byId("here").hidden = !Here.isPossible;
     byId("here").onclick = () => here.go().then(metres => tell(texts.hereWithin(metres)), fault => tell(fault.message, true));
-    byId("adding").onclick = ({ target }) => target.value && !editor.hasChanges && editor.draw(target.value);
+    byId("adding").onclick = ({ target }) => target.value && !editor.hasChanges && !drop.file && editor.draw(target.value);
+    listenToFiles();
     byId("search").onsubmit = event => {
         event.preventDefault();
         find(event.target.firstElementChild.value.trim()).catch(fault => tell(fault.message, true));
@@ -171,13 +205,13 @@ function listen() {
     addEventListener("keydown", ({ key, ctrlKey, metaKey, target }) => {
         const { isDrawn } = editor.draft ?? {}, isText = target.matches("input, textarea");
         key === "Enter" && !target.matches("button, input, textarea, select, summary") && editor.finish();
-        key === "Escape" && !editor.hasChanges && editor.drop();
+        key === "Escape" && !editor.hasChanges && !drop.isSending && (drop.file ? drop.end() : editor.drop());
         key === "Backspace" && isDrawn && !isText && editor.takeBack();
         key === "z" && (ctrlKey || metaKey) && !isText && (isDrawn ? editor.takeBack() : editor.draft && editor.undo());
         view.redraw();
     });
     byId("login").onclick = () => logIn().catch(fault => tell(fault.message, true));
-    addEventListener("beforeunload", event => editor.hasChanges && event.preventDefault());
+    addEventListener("beforeunload", event => (editor.hasChanges || drop.isSending) && event.preventDefault());
 }
 
 /** The box of the published map, or of the first feature if nothing is published, or else of the world. */
@@ -233,6 +267,7 @@ async function start() {
         select, grab: (point, isTouched) => editor.grab(point, isTouched),
         over: context => {
             here.over(context);
+            drop.over(context);
             editor.over(context);
             keys.over(context);
         },
@@ -241,6 +276,7 @@ async function start() {
     view.selected = () => editor.draft || byId("panel").hidden ? null : selected?.id;
     here = new Here(view);
     editor = new Editor(view, server, () => layers, showEdit);
+    drop = new Drop(view, server, () => layers, showEdit);
     keys = new Keys(view, editor, select);
     Object.assign(byId("credit"), { textContent: style.backdrop?.credit ?? "", hidden: !style.backdrop?.credit });
     listen();

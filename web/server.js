@@ -1,9 +1,9 @@
 // The server of the map: tiles, features, and checked edits, which are made only if each feature is what its author saw (docs/HTTP.md).
+import { MAX_BODY } from "./import_rules.js";
 import { texts } from "./texts.js";
 
 // Why a machine may not edit: nobody has logged in, nginx doesn't let this address edit, or the server runs without --admin.
 const MAY_NOT = [401, 403, 404];
-const MAX_BODY = 65536;
 // Seconds without a reply after which none is awaited any more: nginx answers within 75.
 const PATIENCE = 80;
 // Lists of edits that are asked for before all tiles are asked for instead.
@@ -16,12 +16,20 @@ export const bytesOf = text => new TextEncoder().encode(text).length;
 export class Changed extends Error {
 }
 
-/** A refusal with its cause. Nothing was changed. */
+/** A refusal with its cause and the status of the reply. Nothing was changed. */
+export class Refused extends Error {
+    constructor(text, status) {
+        super(text);
+        this.status = status;
+    }
+}
+
+/** The refusal of a reply. */
 function refusal(status, word) {
     // nginx refuses with a page of its own.
     const reasons = texts.refusals, why = reasons[Object.keys(reasons).find(key => word.startsWith(key)) ?? status];
     const told = word.startsWith("<") ? "" : word.trim();
-    return new Error(why ? `${why} (${told || status})` : `${status} ${told}`);
+    return new Refused(why ? `${why} (${told || status})` : `${status} ${told}`, status);
 }
 
 /** A value of the server's JSON. An integer that a number of JavaScript would round is a BigInt. */

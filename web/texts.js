@@ -1,5 +1,6 @@
 // Every text that the page shows, in each of its languages: the browser's language chooses. A text that has values in it is a function of them.
-// The reasons of refusals are those of the commands (refusals.js) in English, and here in German.
+// The reasons of refusals, and the words of the import, are those of the commands (refusals.js, import_rules.js) in English, and here in German.
+import { WORDS } from "./import_rules.js";
 import { WHY } from "./refusals.js";
 
 const some = (count, one, many) => `${count} ${count === 1 ? one : many}`;
@@ -61,6 +62,22 @@ const EN = {
     putBack: "Put mine back", leaveDeleted: "Leave it deleted", deleteAllTheSame: "Delete it all the same", keepIt: "Keep it",
     before: "before", onTheMap: "on the map (blue)", yours: "yours (red)",
     choose: part => `choose a value of ${part}`, saveChosen: "Save what is chosen", keepTheirs: "Keep theirs",
+
+    file: "File …", fileOf: (name, count) => `${name}: ${some(count, "feature", "features")}`, features: "features",
+    fileHelp: "They are on the map once they are sent, as new features: nothing is overwritten.", sendAll: count => `Send ${count}`,
+    notesOf: (note, count) => `${note}: ${some(count, "feature", "features")}`, refusedAt: (at, why) => `feature of the file ${at} refused: ${why}`,
+    noFile: "the page reads GeoJSON, CSV, GPX and KML; vtmap import reads more", noGeojson: "it is no GeoJSON",
+    noDegrees: system => `its coordinates are of ${system}: the page reads longitudes and latitudes alone; vtmap import reads others`,
+    noColumns: names => `it has no columns lon and lat of longitudes and latitudes (it has ${names}); vtmap import reads others by --x and --y`,
+    noNumbers: "its coordinates aren't those of its kind of geometry", notUtf8: "texts aren't UTF-8 and are read as Windows-1252",
+    tooLargeToCut: "it is larger than a tile of its last zoom: vtmap import cuts it, or a smaller last zoom shows it whole",
+    tooLargeFile: (name, most) => `${name} is too large for the page, which reads ${most}: use vtmap import`, nothingToSend: "nothing of the file can be sent",
+    isSaid: (name, value) => `its ${name} is '${value}'`, and: " and ",
+    sending: (count, all) => `sent ${count} of ${all}`, sentOf: (name, count) => `${name}: ${some(count, "feature", "features")} sent`,
+    sentAs: (edits, first, last) => `edits ${edits}, features ${first} to ${last}`,
+    takeAllBack: "Take it all back", tookBack: (count, kept) => `${some(count, "feature", "features")} taken back`
+        + (kept ? `; ${some(kept, "stays", "stay")}, since somebody has changed ${kept === 1 ? "it" : "them"}` : ""),
+    import: WORDS,
 
     noAnswer: "the server doesn't answer", noAnswerOf: status => `the server doesn't answer (${status})`,
     madeOrNot: "the server doesn't answer: the edit may be made or not. Save again: it isn't made twice",
@@ -127,6 +144,31 @@ const DE = {
     putBack: "Meines wieder anlegen", leaveDeleted: "Gelöscht lassen", deleteAllTheSame: "Trotzdem löschen", keepIt: "Behalten",
     before: "vorher", onTheMap: "auf der Karte (blau)", yours: "deines (rot)",
     choose: part => `wähle einen Wert: ${part}`, saveChosen: "Gewähltes speichern", keepTheirs: "Das andere behalten",
+
+    file: "Datei …", fileOf: (name, count) => `${name}: ${some(count, "Objekt", "Objekte")}`, features: "Objekte",
+    fileHelp: "Auf der Karte sind sie, wenn sie gesendet sind, als neue Objekte: nichts wird überschrieben.", sendAll: count => `${count} senden`,
+    notesOf: (note, count) => `${note}: ${some(count, "Objekt", "Objekte")}`, refusedAt: (at, why) => `Objekt ${at} der Datei abgelehnt: ${why}`,
+    noFile: "die Seite liest GeoJSON, CSV, GPX und KML; vtmap import liest mehr", noGeojson: "das ist kein GeoJSON",
+    noDegrees: system => `seine Koordinaten sind in ${system}: die Seite liest nur Längen und Breiten; vtmap import liest auch andere`,
+    noColumns: names => `es hat keine Spalten lon und lat mit Längen und Breiten (es hat ${names}); vtmap import liest andere mit --x und --y`,
+    noNumbers: "seine Koordinaten sind nicht die seiner Art von Geometrie", notUtf8: "Texte sind nicht UTF-8 und werden als Windows-1252 gelesen",
+    tooLargeToCut: "es ist größer als eine Kachel seiner letzten Zoomstufe: vtmap import teilt es, oder eine kleinere letzte Zoomstufe zeigt es ganz",
+    tooLargeFile: (name, most) => `${name} ist zu groß für die Seite, die ${most} liest: vtmap import nehmen`,
+    nothingToSend: "von der Datei lässt sich nichts senden",
+    isSaid: (name, value) => `${name} ist '${value}'`, and: " und ",
+    sending: (count, all) => `${count} von ${all} gesendet`, sentOf: (name, count) => `${name}: ${some(count, "Objekt", "Objekte")} gesendet`,
+    sentAs: (edits, first, last) => `Änderungen ${edits}, Objekte ${first} bis ${last}`,
+    takeAllBack: "Alles zurücknehmen", tookBack: (count, kept) => `${some(count, "Objekt", "Objekte")} zurückgenommen`
+        + (kept ? `; ${some(kept, "bleibt", "bleiben")}, weil jemand ${kept === 1 ? "es" : "sie"} geändert hat` : ""),
+    import: {
+        heights: "Höhen (Z) fallen weg",
+        dropped: "das Feld {name} fällt weg: {what} ist kein Wert eines Merkmals",
+        list: "eine Liste oder ein Objekt",
+        nowhere: "sie haben keine Geometrie und werden nicht angelegt",
+        noKind: "{kind} ist keine Art von Geometrie, die ein Objekt hat",
+        outside: "ein Punkt liegt außerhalb der Welt (180 Grad nach Osten und Westen, 85,05 nach Norden und Süden)",
+        twoNumbers: "{told}: zwei Zahlen sind nötig, wie 7.25 oder 7,25, ohne Tausendertrennzeichen",
+    },
 
     noAnswer: "der Server antwortet nicht", noAnswerOf: status => `der Server antwortet nicht (${status})`,
     madeOrNot: "der Server antwortet nicht: die Änderung ist gemacht oder nicht. Noch einmal speichern: sie wird nicht zweimal gemacht",

@@ -82,10 +82,11 @@ export class View {
         return isPlace;
     }
 
-    /** Shows a box of the world. */
-    show([west, north, east, south]) {
-        const share = Math.max((east - west) / this.canvas.clientWidth, (south - north) / this.canvas.clientHeight, 1);
-        this.move([(west + east) / 2, (north + south) / 2], Math.min(Math.log2(WORLD / SIDE / share) - 0.2, 17));
+    /** Shows a box of the world, beside a panel that covers so many pixels at the right and at the bottom. */
+    show([west, north, east, south], covered = [0, 0]) {
+        const [wide, high] = this.middle.map((half, axis) => 2 * half - covered[axis]), share = Math.max((east - west) / wide, (south - north) / high, 1);
+        this.zoom = clamped(Math.min(Math.log2(WORLD / SIDE / share) - 0.2, 17), 0, MAX_ZOOM);
+        this.move([(west + east) / 2, (north + south) / 2].map((at, axis) => at + covered[axis] / 2 / this.scale));
     }
 
     move(centre, zoom = this.zoom) {

@@ -1,11 +1,10 @@
 // Features that the import cut into pieces: each piece has the tag `whole` with the id of the first piece.
-import { Changed, bytesOf, canonical, text } from "./server.js";
+import { groupsOf } from "./edits.js";
+import { Changed, canonical } from "./server.js";
 import { isOutline } from "./style.js";
 
 // With `--id` of the import, pieces after the first have its id plus a multiple of this.
 export const PIECE = 2 ** 40;
-// The limits of an edit, its frame and the ids left out.
-const MAX_CHANGES = 64, MAX_BYTES = 60000;
 
 /**
  * The pieces of a whole and of its outline: of each its id, the feature that it `was` (null: none), the `model` whose shape it keeps, and what
@@ -65,17 +64,6 @@ async function lookAt(server, pieces) {
 
 const changeOf = ({ piece: { id, was }, feature }) => feature ? { put: id, feature, was } : { delete: id, was };
 
-/** Pieces with what they are to be, in groups that are an edit each. */
-function groupsOf(rows) {
-    const groups = [];
-    for (const row of rows) {
-        const last = groups.at(-1);
-        const fits = last && last.length < MAX_CHANGES && bytesOf(text([...last, row].map(changeOf))) <= MAX_BYTES;
-        fits ? last.push(row) : groups.push([row]);
-    }
-    return groups;
-}
-
 /**
  * Gives all pieces the layer, the zooms and the tags of a feature, or deletes them if it is null. Returns the number of the last edit, or null if
  * nothing was to be changed. Many pieces take several edits, so it looks first whether somebody else has changed one. Whatever a call has done
@@ -85,7 +73,7 @@ export async function changeAll(server, pieces, feature) {
     await lookAt(server, pieces);
     const rows = (feature ? pieces : [...pieces].reverse()).map(piece => ({ piece, feature: pieceOf(piece.model, feature) }));
     let edit = null;
-    for (const group of groupsOf(rows.filter(({ piece, feature }) => canonical(piece.was) !== canonical(feature)))) {
+    for (const group of groupsOf(rows.filter(({ piece, feature }) => canonical(piece.was) !== canonical(feature)), changeOf)) {
         group.forEach(({ piece, feature }) => piece.sent.push(feature));
         edit = await server.edit(group.map(changeOf));
         group.forEach(({ piece, feature }) => piece.was = feature);

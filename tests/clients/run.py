@@ -37,6 +37,7 @@ from meanwhile import meanwhile
 from ogc import ogc
 from operation import operation
 from outsiders import outsiders
+from page_files import page_files
 from page_hands import page_hands
 from page_tools import page_tools
 from pages import page
@@ -83,6 +84,7 @@ def main():
         "page": page,
         "page-tools": page_tools,
         "page-hands": page_hands,
+        "page-files": page_files,
         "desktop": desktop,
         "checkins": checkins,
         "lost-replies": lost_replies,

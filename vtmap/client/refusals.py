@@ -1,6 +1,6 @@
 """Why the server, or a proxy in front of it, refuses a request, and what to do then: once for the commands, for the page, and for docs/OFFICE.md.
 
-    python3 -m vtmap.client.refusals write     writes web/refusals.js, and the rows of the table in docs/OFFICE.md
+    python3 -m vtmap.client.refusals write     writes web/refusals.js and import_rules.js, and the rows of the table in docs/OFFICE.md
     python3 -m vtmap.client.refusals check     ends with 1 if one of them differs
 """
 import json
@@ -9,6 +9,9 @@ import re
 import sys
 from collections import namedtuple
 from typing import Any
+
+from ..files import import_rules
+from ..limits import MOST_BODY, MOST_CHANGES
 
 # Why, what whoever runs a command does, and what whoever uses the page does; empty where that says itself.
 Reason = namedtuple("Reason", "why then for_people", defaults=("", ""))
@@ -91,6 +94,15 @@ def script() -> str:
     return f"// Why a request is refused, and what to do: by vtmap/client/refusals.py, which writes this file.\nexport const WHY = {{\n{lines}}};\n"
 
 
+def rules() -> str:
+    """The module of the page with the rules of the import."""
+    known = {"COLUMNS": import_rules.DEGREES, "NUMBER": f"^(?:{import_rules.NUMBER})$", "MAX_CHANGES": MOST_CHANGES, "MAX_BODY": MOST_BODY}
+    lines = "".join(f"export const {name} = {json.dumps(value)};\n" for name, value in known.items())
+    words = "".join(f"    {name}: {json.dumps(text)},\n" for name, text in import_rules.SHARED.items())
+    return ("// The rules of `vtmap import` for files that the page reads, and its words: by vtmap/client/refusals.py, which writes this file.\n"
+            f"{lines}export const WORDS = {{\n{words}}};\n")
+
+
 def row(keys: tuple) -> str:
     """A row of the table."""
     reasons = [WORDS.get(key) or STATUSES[key] for key in keys]
@@ -111,7 +123,7 @@ def made(office: str) -> str:
 def main() -> int:
     top = os.path.join(os.path.dirname(os.path.abspath(__file__)), "..", "..")
     differ = 0
-    for name, write in (("web/refusals.js", lambda _: script()), ("docs/OFFICE.md", made)):
+    for name, write in (("web/refusals.js", lambda _: script()), ("web/import_rules.js", lambda _: rules()), ("docs/OFFICE.md", made)):
         path = os.path.join(top, name)
         old = ""
         if os.path.exists(path):

@@ -5,6 +5,7 @@ from collections import namedtuple
 
 from ..client.edits import encoded, text_bytes
 from ..files.gdal_file import Nowhere, Unreadable
+from ..files.import_rules import NOWHERE
 from ..geometry.feature_cutter import FeatureCutter
 from ..geometry.shapes import Unfit, bounds, count, is_shown, size, wrong_zooms
 from ..geometry.wholes import PIECE
@@ -50,7 +51,7 @@ class Plan:
             what = f"{self.unknown:,} feature{'s' if self.unknown > 1 else ''}"
             print(f"note: nothing is deleted, since the map may have refused features whose ids aren't known: {what}", flush=True)
         if self.nowhere:
-            print(f"note: they have no geometry, and aren't put: {self.nowhere:,} feature{'s' if self.nowhere > 1 else ''}", flush=True)
+            print(f"note: {NOWHERE}: {self.nowhere:,} feature{'s' if self.nowhere > 1 else ''}", flush=True)
 
     def add(self, feature, name, projection):
         """Plans a feature of the file's layer of this name. Returns its layer in the map, if it is to be put."""

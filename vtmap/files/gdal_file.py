@@ -12,13 +12,12 @@ from ..geometry.shapes import Unfit
 from ..geometry.world import EARTH, HALF, WORLD
 from ..limits import MOST_TAG
 from ..shown import shown
+from . import import_rules
+from .import_rules import COLUMNS, DEGREES
 from .texts import Texts
 
-# Columns of x and y of a CSV file, as they are usually named; which of them are longitude and latitude.
-DEGREES = [("lon", "lat"), ("lng", "lat"), ("long", "lat"), ("longitude", "latitude")]
-COLUMNS = [*DEGREES, ("x", "y"), ("easting", "northing")]
-# A number in them, with a decimal point or comma.
-NUMBER = re.compile(r"[+-]?([0-9]+([.,][0-9]*)?|[.,][0-9]+)([eE][+-]?[0-9]+)?")
+# A number in the columns of a table's points.
+NUMBER = re.compile(import_rules.NUMBER)
 KINDS = {
     ogr.wkbPoint: "points",
     ogr.wkbMultiPoint: "points",
@@ -107,7 +106,7 @@ class Reader:
         names = {layer.GetFieldDefn(at).GetName().lower(): layer.GetFieldDefn(at).GetName() for at in range(layer.GetFieldCount())}
         x, y = columns or next((pair for pair in COLUMNS if set(pair) <= set(names)), (None, None))
         if x is None or not {x.lower(), y.lower()} <= set(names):
-            raise Unreadable(f"{self.path} has no geometry: name the columns of its points by --x and --y (it has {', '.join(map(shown, names.values()))})")
+            raise Unreadable(import_rules.NO_COLUMNS.format(path=self.path, names=", ".join(map(shown, names.values()))))
         x, y = names[x.lower()], names[y.lower()]
         if self.crs is None and (x.lower(), y.lower()) in DEGREES:
             self.crs = "EPSG:4326"
@@ -136,7 +135,7 @@ class Reader:
         if geometry is None or geometry.IsEmpty():
             raise Nowhere
         if geometry.Is3D():
-            self.notes.add("heights (Z) are dropped")
+            self.notes.add(import_rules.HEIGHTS)
         if geometry.IsMeasured():
             self.notes.add("measures (M) are dropped")
         if geometry.HasCurveGeometry(True):
@@ -145,7 +144,7 @@ class Reader:
         geometry.FlattenTo2D()
         kind = KINDS.get(geometry.GetGeometryType())
         if kind is None:
-            raise Unfit(f"a {geometry.GetGeometryName()} is no kind of geometry that a feature has")
+            raise Unfit(import_rules.NO_KIND.format(kind=geometry.GetGeometryName()))
         if geometry.Transform(projection) != ogr.OGRERR_NONE:
             raise Unfit("it can't be projected to Web Mercator")
         lists = lists_of(kind, geometry)
@@ -160,7 +159,7 @@ class Reader:
             return None
         if not all(NUMBER.fullmatch(cell) for cell in cells):
             told = " and ".join(f"its {shown(name)} is {cell!r}" for name, cell in zip(self.columns, cells))
-            raise Unfit(f"{told}: two numbers are needed, as 7.25 or 7,25, without separators of thousands")
+            raise Unfit(import_rules.TWO_NUMBERS.format(told=told))
         made = ogr.Geometry(ogr.wkbPoint)
         made.AddPoint_2D(*(float(cell.replace(",", ".")) for cell in cells))
         return made
@@ -213,7 +212,7 @@ class Reader:
         text = None if kind in DROPPED else self.texts.decoded(feature.GetFieldAsString(at), "texts")
         # A field of JSON has texts too, if its values are of several kinds.
         if text is None or (field.GetSubType() == ogr.OFSTJSON and text[:1] in ("[", "{")):
-            self.notes.add(f"the field {name} is dropped: {DROPPED.get(kind, 'a list or an object')} is no value of a tag")
+            self.notes.add(import_rules.DROPPED.format(name=name, what=DROPPED.get(kind, import_rules.LIST)))
             return None
         return self.short(text, name)
 
@@ -317,7 +316,7 @@ def lists_of(kind, geometry):
     if kind == "points":
         found = [place(part.GetPoint_2D(0)) for part in parts]
         if any(not -1 <= part <= WORLD for point in found for part in point):
-            raise Unfit("a point is outside of the world (180 degrees east and west, 85.05 north and south)")
+            raise Unfit(import_rules.OUTSIDE)
         return found
     if kind == "lines":
         return [line for line in ([place(point) for point in part.GetPoints() or []] for part in parts) if line]

@@ -6,8 +6,8 @@ are UTF-8, and the file says that it is UTF-8 or has a letter of it elsewhere. I
 """
 import codecs
 
-# The texts of a file that names no encoding and isn't UTF-8 are read as this one.
-GUESS = "cp1252"
+from .import_rules import GUESS, NOT_UTF8
+
 # Formats whose fields of texts have a width in bytes, and the width of the names of fields in a DBF file.
 FIXED = ("ESRI Shapefile", "MapInfo File")
 NAME_WIDTH = 10
@@ -80,7 +80,7 @@ class Texts:
                 self.notes.add(f"{what}: the file ends them within a letter, which is dropped")
                 return raw[:fault.start].decode()
         made = self.by(GUESS, raw, what)
-        self.notes.add(f"{what} aren't UTF-8 and are read as {GUESS}; --encoding names another encoding", made)
+        self.notes.add(NOT_UTF8.format(what=what, encoding=GUESS), made)
         return made
 
     def by(self, encoding, raw, what):
