@@ -80,6 +80,7 @@ PARTS = [
     client("foreign"),
     client("wfs-hostile"),
     client("wfs-tables"),
+    client("schema"),
     client("outsiders"),
     client("standby"),
     client("try"),

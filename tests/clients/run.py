@@ -46,6 +46,7 @@ from replicas import replicas
 from round_trips import round_trips
 from routes import routes
 from running import full, kept_connections, restarts
+from schemas import schema
 from screens import screens
 from several_maps import maps
 from stand import Cases
@@ -102,6 +103,7 @@ def main():
         "wfs-random": wfs_random,
         "wfs-tables": wfs_tables,
         "wfs-qgis": wfs_qgis,
+        "schema": schema,
         "ogc": ogc,
         "operation": operation,
         "admin": admin,

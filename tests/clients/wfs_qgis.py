@@ -8,7 +8,7 @@ import subprocess
 from desktop import run
 from gateways import Gateway, edits_at, feature_at, map_at, put_at
 from pages import town
-from stand import SYSTEM_PYTHON, Nginx, Server
+from stand import SYSTEM_PYTHON, VTMAP, Nginx, Server
 
 QGIS = """
 import json, os, sys, urllib.request
@@ -159,6 +159,26 @@ say([made.isValid(), sum(1 for _ in made.getFeatures()), made.crs().authid()])
 """
 
 
+FORMS = QGIS + """
+project = QgsProject.instance()
+say(project.read(os.path.join(sys.argv[3], "forms.qgs")))
+made = {layer.name(): layer for layer in project.mapLayers().values()}
+say(sorted(name for name, layer in made.items() if layer.isValid()))
+building = made["Houses (areas)"]
+for name in ("roof", "built", "listed", "floors"):
+    at = building.fields().indexOf(name)
+    setup, constraints = building.editorWidgetSetup(at), building.fields().field(at).constraints()
+    needed = bool(constraints.constraints() & QgsFieldConstraints.ConstraintNotNull)
+    say([name, setup.type(), building.attributeAlias(at), needed, [list(one) for one in setup.config().get("map", [])]])
+say([building.editFormConfig().readOnly(0), building.displayExpression()])
+building.startEditing()
+first = min(building.getFeatures(), key=lambda feature: feature["feature_id"])
+building.changeAttributeValue(first.id(), building.fields().indexOf("roof"), "hip")
+say([first["feature_id"], saved(building)])
+building.startEditing()
+building.changeAttributeValue(first.id(), building.fields().indexOf("roof"), "pyramid")
+say(saved(building))
+"""
 LOGIN = QGIS + """
 for words in ("username='ann' password='secret' ", "username='ann' password='wrong' ", ""):
     place = QgsVectorLayer(f"pagingEnabled='true' srsname='EPSG:3857' typename='v:place.points' url='{gateway}/wfs' version='auto' {words}", "place", "WFS")
@@ -179,12 +199,13 @@ def wfs_qgis(cases, folder):
     os.mkdir(folder)
     with Server(folder, "town", sectors=16384) as server:
         town(folder, server.url)
-        with Gateway(folder, server.url) as gateway:
+        with Gateway(folder, server.url, "--schema", os.path.join(folder, "schema.json")) as gateway:
             desk = Desk(cases, folder, server, gateway)
             desk.reads()
             desk.edits()
             desk.conflict()
             desk.project()
+            desk.forms()
             desk.login(server, gateway)
             desk.empties()
 
@@ -248,13 +269,38 @@ class Desk:
         wanted = [["Church", "Newer"], ["Church", "Newer"], ["By others", "Newer"]]
         self.show("panned, QGIS shows no feature twice", [sorted(names) for names in panned], wanted)
 
+    def forms(self):
+        """A project with forms by a schema, which is gone again then."""
+        path = os.path.join(self.folder, "schema.json")
+        fields = {"roof": {"choices": ["flat", "hip"], "label": "Roof"}, "built": {"type": "date", "required": True}, "listed": {"type": "boolean"},
+                  "floors": {"type": "integer"}, "house": {"type": "integer"}}
+        with open(path, "w", encoding="utf-8") as file:
+            json.dump({"layers": {"building": {"title": "Houses", "label": "house", "fields": fields}, "tree": {"kinds": ["points"]}}}, file)
+        words = ["qgis", os.path.join(self.folder, "forms.qgs"), "--edit", "--url", self.own, "--schema", path, "--maxzoom", "16", "--centre", "7.5,54.5"]
+        told = subprocess.run([*VTMAP, *words], capture_output=True, text=True, check=False)
+        self.show("a project with forms is written", (told.returncode, told.stderr), (0, ""))
+        found = self.said(FORMS)
+        names = ["Houses (areas)", "land (areas)", "park (areas)", "place (points)", "road (lines)", "tree (points)"]
+        self.show("QGIS opens it, with an empty layer too", (found[0], [name for name in found[1] if name != "vtserve"]), (True, names))
+        none = ["", "{2839923C-8B7D-419E-B84B-CA2FE9B80EC7}"]
+        choices = [[*one.items()][0] if isinstance(one, dict) else one for one in found[2][4]]
+        self.show("it has a list of the choices", found[2][:4], ["roof", "ValueMap", "Roof", False])
+        self.show("with no value too", len(choices), 3)
+        self.show("a calendar for what is required", found[3][:4], ["built", "DateTime", "", True])
+        self.show("a check box", found[4][:4], ["listed", "CheckBox", "", False])
+        self.show("the id can't be changed, and a field names the feature", found[6], [True, '"house"'])
+        number = found[7][0]
+        self.show("what is chosen is saved", (found[7][1], self.tags(number)["roof"]), (True, "hip"))
+        self.show("another value isn't", "roof is 'pyramid': one of 'flat', 'hip' is needed" in str(found[8]), True)
+        os.remove(path)
+
     def empties(self):
         self.gateway = self.own
         found = self.said(EMPTY)
         told = str(found[0]).partition("nothing of this was saved: ")[2]
         wanted = "it deletes 318 of the 318 features of building (areas). If that is meant, save once more within ten minutes"
         self.show("all buildings aren't deleted by one Save", told.startswith(wanted), True)
-        fields = ["feature_id", "floors", "house", "minzoom", "maxzoom"]
+        fields = ["feature_id", "floors", "house", "roof", "minzoom", "maxzoom"]
         self.show("saved once more they are, and the layer takes new ones", found[1:], [True, [fields, True], True, [fields, True], True])
         self.show("it is empty again", [one for one in map_at(self.url).values() if one["layer"] == "building"], [])
 

@@ -4,8 +4,10 @@ from collections import Counter
 
 from ..client.client import Client
 from ..client.edits import checked, delete, put
+from ..client.schema import schema_at
 from ..files import geopackage
 from ..files.checkout_file import Checkout, Unusable, there
+from ..files.map_schema import missing
 from ..geometry.pieces import pieces_of
 from ..geometry.shapes import Unfit
 from ..geometry.wholes import WHOLE, wholes_of
@@ -23,7 +25,8 @@ All are checked edits: a feature that somebody else has changed meanwhile is lef
 conflict; --mine 7,9 puts what you changed of these over what others changed, and keeps what they changed beside it. What others changed
 elsewhere is listed too. New features get ids that are free. Large shapes are cut, for which GDAL's Python module is needed. What was sent is
 remembered in the file, so a second `vtmap checkin` sends the rest. What is sent for new features is noted before it is sent: if no reply
-comes, the next check-in finds what was made, also if it was edited since in the file. --dry-run sends nothing and lists. The server is the one
+comes, the next check-in finds what was made, also if it was edited since in the file. What doesn't fit the schema of the map is refused by
+name (`vtmap schema`). --dry-run sends nothing and lists. The server is the one
 that the file was checked out of, unless --url says another. It ends with 1 if there are conflicts or refusals."""}
 
 
@@ -31,6 +34,7 @@ def options(parser, _):
     """The words of the command."""
     parser.add_argument("file", help="the GeoPackage that `vtmap checkout` wrote")
     parser.add_argument("--mine", type=lambda text: text.split(","), default=[], help="ids of which what you changed is put over what others changed")
+    parser.add_argument("--schema", metavar="FILE", help="the fields that features have to fit (the server's, if it has a schema: docs/FORMATS.md)")
     parser.add_argument("--dry-run", action="store_true", help="list what would be sent, and send nothing")
     parser.add_argument("--delete-many", action="store_true", help="delete even more than half of the features that were checked out")
     parser.add_argument("--publish", action="store_true", help="publish when the journal is full")
@@ -52,7 +56,7 @@ class Checkin:
     """Sends what was changed, and counts."""
 
     def __init__(self, words, client, file):
-        self.words, self.client, self.file = words, client, file
+        self.words, self.client, self.file, self.schema = words, client, file, schema_at(client, words.schema)
         self.conflicts = self.refused = 0
         self.done = Counter()
 
@@ -106,6 +110,7 @@ class Checkin:
         try:
             if base and str(row.number) in self.words.mine:
                 row.put_over(theirs)
+            self.fit(row)
             row.wanted = pieces_of(row, now)
         except Unfit as fault:
             self.refused += 1
@@ -120,6 +125,20 @@ class Checkin:
         row.changes += [checked(delete(number), feature) for number, feature in was.items() if number not in row.wanted]
         print(f"{'would be sent' if self.words.dry_run else 'sending' if row.changes else 'on the map already'}: {row}: {mine}")
         return True
+
+    def fit(self, row):
+        """Gives a row that is sent the values that the schema has. Raises `Unfit`."""
+        rules = row.feature and self.schema.layers.get(row.feature["layer"])
+        if not rules:
+            return
+        before = row.base.feature["tags"] if row.base else None
+        tags = rules.fitted(row.feature["tags"], before)
+        known = {tag for tag, _ in self.file.columns[row.table].values()} | set(before or ())
+        unknown = [tag for tag in rules.unknown(tags) if tag not in known]
+        fault = missing(row.feature["layer"], *unknown) if unknown else rules.fault(before, tags)
+        if fault:
+            raise Unfit(fault)
+        row.feature = {**row.feature, "tags": tags}
 
     def is_changed(self, row, now):
         """Whether somebody else has changed a feature of a row: it is neither as it was checked out nor as the row is to be."""

@@ -5,6 +5,7 @@ import os
 import sys
 
 from ..client.client import NO_CHECKS, Client
+from ..client.schema import schema_at
 from ..faults import Fault, NoAnswer, Stopped
 from ..files.base_file import Base
 from ..files.gdal_file import Reader
@@ -32,12 +33,23 @@ def plan_of(words, client, status):
         first = client.next_id(status) if words.id is None or ids else 0
     if ids:
         ids.begin_at(first)
+    schema = schema_at(client, words.schema)
+    take_zooms(words, schema)
     columns = (words.x, words.y) if words.x is not None else None
     reader = Reader(words.file, words.source, words.crs, words.encoding, words.cut_texts, columns, words.id)
-    plan = Plan(words, reader, first, ids)
+    plan = Plan(words, reader, first, ids, schema)
     plan.read()
     reader.notes.show()
     return plan
+
+
+def take_zooms(words, schema):
+    """Takes the zooms of the layer that --layer names from the schema, if the command names none."""
+    rules = schema.layers.get(words.layer)
+    if rules and rules.zooms and not (words.says_minzoom or words.says_maxzoom):
+        words.minzoom, words.maxzoom = rules.zooms
+        words.says_maxzoom = True
+        print(f"note: they are shown at zooms {words.minzoom} to {words.maxzoom}, as the schema has it", flush=True)
 
 
 def base_of(words, client, status):
@@ -71,9 +83,9 @@ def obstacles(words, client, status, changes):
         if words.update:
             return ["update needs to know what the map has"]
         changes.compare()
-        return []
+        return list(changes.plan.obstacles())
     changes.look(client, status)
-    found = list(changes.obstacles())
+    found = [*changes.plan.obstacles(), *changes.obstacles()]
     # A proxy's copy of the layers may be older than the last edit: this asks for one that isn't (docs/nginx.conf).
     known = client.found(f"/map/metadata?edit={status['edits']}")["vector_layers"]
     layers = {layer["id"] for layer in known} & changes.layers

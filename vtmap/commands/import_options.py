@@ -22,7 +22,8 @@ are. What stays too large is reported with its size and the zooms that will be w
 
 Attributes become tags: texts, integers and booleans as they are, whole numbers as integers, other numbers as texts, dates as ISO texts; null
 attributes are left out, lists and objects are dropped and reported. --cut-texts cuts texts of over 1,024 bytes, which are refused else. A
-feature without geometry isn't put, and is no failure.
+feature without geometry isn't put, and is no failure. If the map has a schema (`vtmap schema`), features of its layers have to fit it: texts that
+say a number or a boolean of its become these, a feature with another value is refused, and attributes for which it has no field stop the import.
 
 Before it sends, it prints what will be needed of journal and areas, and sends nothing that can't be published (--anyway). With --publish a
 publication by steps frees the journal whenever it is full. It stops at the first refusal that all further features would get. Up to 64
@@ -68,7 +69,7 @@ def options(parser, name):
     parser.add_argument("file", help="a GeoJSON, Shapefile or GeoPackage file, or another one that GDAL reads")
     parser.add_argument("--layer", help="the name of their layer in the map (that of the file's layer)")
     parser.add_argument("--layer-field", help="the attribute that holds the name of the layer, instead of --layer")
-    parser.add_argument("--minzoom", type=int, default=0, help="the first zoom that shows them (0)")
+    parser.add_argument("--minzoom", type=int, help="the first zoom that shows them (0)")
     parser.add_argument("--maxzoom", type=int, help=f"the last zoom that shows them ({MAXZOOM})")
     parser.add_argument("--first", type=int, help="the id of the first feature (the next free one); with --id, what is added to the field (0)")
     parser.add_argument("--id", metavar="FIELD", help="the attribute that holds the id of each feature")
@@ -88,6 +89,8 @@ def options(parser, name):
     parser.add_argument("--anyway", action="store_true", help="send what can't be published, or doesn't fit into the journal, anyway")
     parser.add_argument("--no-batches", action="store_true", help="send each feature in a request of its own")
     parser.add_argument("--base", metavar="FILE", help="where to keep what the file said (the file of --ids, or else the imported one, and .base)")
+    parser.add_argument("--schema", metavar="FILE", help="the fields that features have to fit (the server's, if it has a schema: docs/FORMATS.md)")
+    parser.add_argument("--new-fields", action="store_true", help="put attributes for which the schema has no field, too")
     parser.add_argument("--dry-run", action="store_true", help="say what would be sent, and send nothing")
     if name == "update":
         options_of_update(parser)
@@ -115,7 +118,8 @@ def has_ids(words):
 def fault_of(words):
     """What is wrong with the command line. Completes it."""
     words.update = words.command == "update"
-    words.says_maxzoom = words.maxzoom is not None
+    words.says_minzoom, words.says_maxzoom = words.minzoom is not None, words.maxzoom is not None
+    words.minzoom = words.minzoom if words.says_minzoom else 0
     words.maxzoom = words.maxzoom if words.says_maxzoom else MAXZOOM
     words.delete_missing = words.delete_missing or words.replace is not None or words.exactly
     if words.layer is not None and words.layer_field is not None:

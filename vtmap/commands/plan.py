@@ -6,6 +6,7 @@ from collections import namedtuple
 from ..client.edits import encoded, text_bytes
 from ..files.gdal_file import Nowhere, Unreadable
 from ..files.import_rules import NOWHERE
+from ..files.map_schema import Schema, missing
 from ..geometry.feature_cutter import FeatureCutter
 from ..geometry.shapes import Unfit, bounds, count, is_shown, size, wrong_zooms
 from ..geometry.wholes import PIECE
@@ -22,9 +23,10 @@ Planned = namedtuple("Planned", "number whole text body")
 
 
 class Plan:
-    """The features of all layers of a reader. `first`: the first id, or what is added to the ids of the file. `ids`: an `IdFile`, or None."""
+    """The features of all layers of a reader. `first`: the first id, or what is added to the ids of the file. `ids`: an `IdFile`, or None. `schema`: what
+    the features have to fit, or None."""
 
-    def __init__(self, words, reader, first, ids):
+    def __init__(self, words, reader, first, ids, schema=None):
         self.words, self.reader, self.first, self.ids = words, reader, first, ids
         self.zooms = range(words.minzoom, words.maxzoom + 1)
         self.cutter = FeatureCutter(self.zooms, words.split_zoom, not words.no_split, not words.no_outlines, words.whole)
@@ -36,6 +38,8 @@ class Plan:
         self.next, self.cut, self.nowhere, self.box = first, 0, 0, None
         # The types of the fields of each layer of the map that aren't those of tags.
         self.types = {}
+        # The schema of the map, and the attributes for which it has no field, by the layers.
+        self.schema, self.unknown_fields = schema or Schema(), {}
 
     def read(self):
         """Plans the features of all layers."""
@@ -61,6 +65,7 @@ class Plan:
             number = self.number(feature) if self.ids is None else None
             tags = self.reader.tags(feature)
             layer = self.layer(tags, name)
+            tags = self.fitted(layer, tags)
             number = self.number(feature, layer) if number is None else number
             self.check(number)
             made = self.features(number, self.reader.shape(feature, projection), tags, layer)
@@ -103,6 +108,24 @@ class Plan:
         if layer is None:
             raise Unfit(f"it has no attribute {self.words.layer_field}")
         return str(layer)
+
+    def fitted(self, layer, tags):
+        """The tags as the schema has them, if it names the layer."""
+        rules = self.schema.layers.get(layer)
+        if rules is None:
+            return tags
+        tags = rules.fitted(tags)
+        self.unknown_fields.setdefault(layer, {}).update(dict.fromkeys(rules.unknown(tags)))
+        fault = rules.fault(None, tags)
+        if fault:
+            raise Unfit(fault)
+        return tags
+
+    def obstacles(self):
+        """Why nothing may be sent: attributes for which the schema has no field."""
+        for layer, tags in self.unknown_fields.items():
+            if tags and not self.words.new_fields:
+                yield f"{missing(layer, *tags)}; --new-fields puts them without"
 
     def number(self, feature, layer=None):
         """The id of a feature: the next one, or by the field that --id names, and with --ids by the layer."""

@@ -5,10 +5,12 @@ import urllib.parse
 from xml.sax.saxutils import escape
 
 from ..client.client import Client
+from ..client.schema import schema_at
 from ..ending import regular, replaced
 from ..faults import NoAnswer, Refused, Stopped
 from ..files.protobuf import varint
 from ..geometry.world import EARTH, HALF, mercator
+from .qgis_forms import in_project
 from .qgis_styles import background, page_style, styled
 
 ABOUT = {"qgis": """Writes a QGIS project with the tiles of a vtserve as its only layer, with the colours of the page and a colour for each layer more.
@@ -18,15 +20,16 @@ ABOUT = {"qgis": """Writes a QGIS project with the tiles of a vtserve as its onl
 Open the file with QGIS 3.14 or later. It opens where the published map is, or at --centre. --maxzoom is the greatest zoom that the features
 have, which the server tells: QGIS enlarges the tiles of that zoom for greater ones. The colours are those of the page's style.json, which the
 server's nginx has; layers that it doesn't name get one each. Pieces of areas that the import cut have no outlines, which would show the cuts:
-it has put them as lines of a layer of their own. --outlines draws outlines of the pieces too. With --maxzoom and --centre the server needn't
-answer; then all layers look the same. A file that is there is replaced only with --force."""}
+it has put them as lines of a layer of their own. --outlines draws outlines of the pieces too. --edit adds the layers by which the map is edited
+(`vtmap wfs`): by the schema of the map their forms have lists of the choices, labels, calendars, and warn of what is required. With --maxzoom and
+--centre the server needn't answer; then all layers look the same. A file that is there is replaced only with --force."""}
 PROJECT = """<!DOCTYPE qgis PUBLIC 'http://mrcc.com/qgis.dtd' 'SYSTEM'>
 <qgis projectname="{name}" version="3.22.0">
   <title>{name}</title>
   <projectCrs>
     {system}
   </projectCrs>
-  <layer-tree-group>
+  <layer-tree-group>{tree}
     <layer-tree-layer id="vtserve_tiles" name="{name}" checked="Qt::Checked" expanded="1" providerKey="" source="{source}"/>
   </layer-tree-group>
   <mapcanvas name="theMapCanvas">
@@ -34,7 +37,7 @@ PROJECT = """<!DOCTYPE qgis PUBLIC 'http://mrcc.com/qgis.dtd' 'SYSTEM'>
     <extent><xmin>{west}</xmin><ymin>{south}</ymin><xmax>{east}</xmax><ymax>{north}</ymax></extent>
     <destinationsrs>{system}</destinationsrs>
   </mapcanvas>
-  <projectlayers>
+  <projectlayers>{editable}
     <maplayer type="vector-tile" hasScaleBasedVisibilityFlag="0">
       <id>vtserve_tiles</id>
       <datasource>{source}</datasource>
@@ -47,7 +50,7 @@ PROJECT = """<!DOCTYPE qgis PUBLIC 'http://mrcc.com/qgis.dtd' 'SYSTEM'>
       </renderer>
     </maplayer>
   </projectlayers>
-  <layerorder><layer id="vtserve_tiles"/></layerorder>
+  <layerorder>{order}<layer id="vtserve_tiles"/></layerorder>
   <properties>
     <SpatialRefSys><ProjectionsEnabled type="int">1</ProjectionsEnabled></SpatialRefSys>
     <Gui>
@@ -136,6 +139,8 @@ def options(parser, _):
     """The words of the command."""
     parser.add_argument("file", help="the .qgs file that is written")
     parser.add_argument("--force", action="store_true", help="replace the file if it is there")
+    parser.add_argument("--edit", action="store_true", help="add the layers of QGIS's gateway, to be edited, with forms by the schema of the map")
+    parser.add_argument("--schema", metavar="FILE", help="--edit: the schema (the server's)")
     parser.add_argument("--name", default="vtserve", help="the name of the layer in QGIS (vtserve)")
     parser.add_argument("--maxzoom", type=int, help="the greatest zoom of the features (as the server tells it)")
     parser.add_argument("--outlines", action="store_true", help="draw outlines of the pieces of areas that the import cut")
@@ -154,6 +159,7 @@ def work(words):
         raise Stopped(f"what answers at {client.address} is no vtserve: is --url right?") from fault
     maxzoom, style = max(layers.values(), default=0) if words.maxzoom is None else words.maxzoom, page_style(client)
     red, green, blue = background(style)
+    tree, editable, order = in_project(client, schema_at(client, words.schema), SYSTEM) if words.edit else ("", "", "")
     tiles = urllib.parse.quote(client.address + "/map/", safe=":/") + "{z}/{x}/{y}.mvt"
     source = f"type=xyz&url={tiles}&zmin=0&zmax={maxzoom}"
     replaced(words.file, PROJECT.format(
@@ -161,6 +167,9 @@ def work(words):
         source=escape(source),
         styles=styled(style, layers, words.outlines),
         system=SYSTEM,
+        tree=tree,
+        editable=editable,
+        order=order,
         west=west,
         east=east,
         south=south,

@@ -8,6 +8,7 @@ from .. import alive
 from ..client.feed import Leader
 from ..faults import NoAnswer, Stopped
 from ..files.checkout_file import KINDS
+from ..files.map_schema import SchemaFile
 from ..files.save_log import SaveLog
 from ..gateway.listener import listener
 from ..gateway.live_map import LiveMap
@@ -31,7 +32,8 @@ What QGIS saves by one Transaction is made by checked edits, all of it or nothin
 is saved, and QGIS shows which feature that is. What a save needs is noted in the file of --state before it is sent, so that a save that was cut
 short is undone by the next start; the file also has what each QGIS has saved, so that a restart isn't noticed. Without it both end with the
 process. --log FILE appends who has saved what, for `vtmap log --nginx FILE`. Behind nginx --behind-nginx takes the name or the address of whoever
-saves from nginx; without it that is 127.0.0.1.
+saves from nginx; without it that is 127.0.0.1. --schema FILE names the layers, fields, choices and zooms that the map is to have: what is saved has
+to fit them, and `vtmap schema add` adds to it.
 
 The server needs --admin. Large shapes are cut, for which GDAL's Python module is needed. It ends with 0 at SIGTERM, once a save that is under way
 is made. If systemd waits for it (WatchdogSec), it asks itself again and again whether it answers, and says so."""}
@@ -43,6 +45,7 @@ def options(parser, _):
     parser.add_argument("--port", type=int, default=8090, help="the port of 127.0.0.1 (8090)")
     parser.add_argument("--state", metavar="FILE", help="keep in this file what is being saved, and what each GIS has saved")
     parser.add_argument("--log", metavar="FILE", help="append who has saved what to this file, as `vtmap log --nginx` reads it")
+    parser.add_argument("--schema", metavar="FILE", help="the layers and fields that the map is to have (docs/FORMATS.md); read anew when it changes")
     parser.add_argument("--layer", type=layer_of, action="append", default=[], metavar="LAYER:KIND[:TAG=FORM,..]",
                         help="a layer that the map doesn't have yet, or further tags of one: KIND is points, lines or areas, FORM text, integer or boolean; "
                         "may be repeated")
@@ -72,7 +75,7 @@ def work(words):
     log.shorten(time.time() - FORGOTTEN)
     for row in log.done:
         sessions.restore(row)
-    live = LiveMap(Leader(words.url, words.publish), dict(words.layer), log)
+    live = LiveMap(Leader(words.url, words.publish), dict(words.layer), log, SchemaFile(words.schema))
     wfs = Wfs(live, sessions, Saves(live, log, words.log))
     server = listener(words.port, wfs, OgcApi(live, wfs.look), words.behind_nginx)
     begin(wfs)

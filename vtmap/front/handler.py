@@ -26,6 +26,8 @@ OF_MAP = re.compile(r"/map/.*|/map\.pmtiles|/features/.*|/edits|/publish(/.*)?|/
 OF_GATEWAY = re.compile(r"/(wfs|ogc)(/.*)?")
 EDITS = re.compile(r"/edits|/admin/edits(/at/[0-9]+)?")
 PAGE, START = re.compile(r"/pages/([A-Za-z0-9_][A-Za-z0-9_.-]*)?"), re.compile(r"/(pages)?")
+# Where the page finds the schema of the map, and where the gateway has it.
+SCHEMA, SCHEMA_OF_GATEWAY = "/pages/schema.json", "/ogc/schema.json"
 KINDS = {
     ".html": "text/html; charset=utf-8",
     ".css": "text/css; charset=utf-8",
@@ -64,6 +66,9 @@ class FrontHandler(Handler):
             self.head(204, OF_ALL)
         elif START.fullmatch(path) and self.command in READS:
             self.head(302, [("Location", "/pages/"), ("Content-Length", "0")])
+        elif path == SCHEMA and self.command in READS:
+            self.path = SCHEMA_OF_GATEWAY
+            self.pass_on(self.behind.gateway, {"Host": HERE}, 0, [])
         elif PAGE.fullmatch(path):
             self.send_page(PAGE.fullmatch(path)[1] or "index.html")  # type: ignore[index]
         elif path == "/map.json":

@@ -12,16 +12,19 @@ import urllib.parse
 from http.server import BaseHTTPRequestHandler, ThreadingHTTPServer
 
 from ..faults import Fault, NoAnswer, Refused, Stopped
-from ..shown import shown_lines
+from ..files import map_schema
+from ..shown import shown, shown_lines
 from ..systems import is_windows
 from . import wfs_texts
 from .ogc_api import Unknown
 from .ogc_texts import JSON
 
 WFS, OGC = "/wfs", "/ogc"
+# Where the schema is read, and where it gets more.
+SCHEMAS, SCHEMA = ("/wfs/schema.json", "/ogc/schema.json"), "/wfs/schema.json"
 XML, TEXT = "text/xml; charset=utf-8", "text/plain; charset=utf-8"
-# The media types of a Transaction, and the methods that change nothing.
-KINDS_OF_XML, READS = ("text/xml", "application/xml", "application/gml+xml"), ("GET", "HEAD", "OPTIONS")
+# The media types of a Transaction and of a schema, and the methods that change nothing.
+KINDS_OF_XML, KINDS_OF_JSON, READS = ("text/xml", "application/xml", "application/gml+xml"), ("application/json",), ("GET", "HEAD", "OPTIONS")
 HERE = "127.0.0.1"
 # The names by which a client, or the proxy in front, reaches this. A web page could rebind its own name to this address, and edit the map.
 HOSTS = re.compile(r"(127\.0\.0\.1|localhost|\[::1\])(:[0-9]+)?", re.IGNORECASE)
@@ -79,6 +82,9 @@ class Handler(BaseHTTPRequestHandler):
         """Answers WFS and OGC API Features."""
         path, _, query = self.path.partition("?")
         given = dict(urllib.parse.parse_qsl(query, keep_blank_values=True))
+        if path in SCHEMAS:
+            self.answer_schema()
+            return
         if path == OGC or path.startswith(OGC + "/"):
             self.answer_ogc(path.removeprefix(OGC), given)
             return
@@ -93,38 +99,72 @@ class Handler(BaseHTTPRequestHandler):
     do_HEAD = do_GET
 
     def do_POST(self):
-        """Makes a Transaction."""
+        """Makes a Transaction, or adds to the schema."""
         path, _, query = self.path.partition("?")
         session, length, is_meant = session_in(path), self.length(), ("delete-many", "true") in urllib.parse.parse_qsl(query)
+        most, kinds = (map_schema.MOST_BYTES, KINDS_OF_JSON) if path == SCHEMA else (MOST_BODY, KINDS_OF_XML)
         if length is None:
             self.refuse(411, "one Content-Length is needed")
-        elif length > MOST_BODY:
-            self.refuse(413, f"a body of at most {MOST_BODY:,} bytes is taken")
-        elif session is None:
+        elif length > most:
+            self.refuse(413, f"a body of at most {most:,} bytes is taken")
+        elif session is None and path != SCHEMA:
             self.refuse(404, "NotFound")
-        elif self.headers.get_content_type() not in KINDS_OF_XML:
+        elif self.headers.get_content_type() not in kinds:
             # A web page can make a browser post text or a form to any server, also with a parameter that has "xml" in it. For XML of another origin
             # the browser asks first.
-            self.refuse(415, "text/xml is needed")
+            self.refuse(415, f"{kinds[0]} is needed")
         elif not self.server.bodies.take(length):
             self.refuse(503, "others are sending very much just now")
         else:
             try:
-                self.post(session, length, is_meant)
+                self.post(lambda body: self.add_to_schema(body) if path == SCHEMA else self.transact(session, body, is_meant), length)
             finally:
                 self.server.bodies.take(-length)
 
-    def post(self, session, length, is_meant):
-        """Makes a Transaction, once its body is there. The process doesn't end before its reply is sent."""
+    def post(self, work, length):
+        """Does what is asked by a body, once that is there. The process doesn't end before its reply is sent."""
         body = self.body(length)
         if body is None:
             self.refuse(408, "the body didn't come")
             return
         try:
             with self.server.saving:
-                self.answer_wfs(wfs_texts.V1, "OperationProcessingFailed", lambda: self.wfs.transaction(session, body, self.person(), is_meant))
+                work(body)
         except Ending:
             self.refuse(503, "the gateway ends")
+
+    def transact(self, session, body, is_meant):
+        """Makes a Transaction."""
+        self.answer_wfs(wfs_texts.V1, "OperationProcessingFailed", lambda: self.wfs.transaction(session, body, self.person(), is_meant))
+
+    # ---- the schema
+
+    def answer_schema(self):
+        """Sends the schema as it is now."""
+        live = self.wfs.live
+        with live.lock:
+            schema = live.see_schema()
+        status, text, kind = (200, schema.text(), JSON) if schema.layers else (404, "the map has no schema", TEXT)
+        self.reply(status, text.encode(), kind)
+
+    def add_to_schema(self, body):
+        """Adds what a body has to the schema."""
+        status, kind, live = 200, JSON, self.wfs.live
+        try:
+            if live.schema.path is None:
+                raise Unknown("the gateway has no file of a schema: start it with --schema FILE")
+            more = map_schema.parsed(body.decode())
+            with live.lock:
+                self.wfs.look()
+                text = live.add_to_schema(more).text()
+            print(f"schema: {shown(self.person())}: {', '.join(map(shown, more.layers))}", flush=True)
+        except (NoAnswer, Stopped) as fault:
+            status, kind, text = 502, TEXT, str(fault)
+        except OSError as fault:
+            status, kind, text = 500, TEXT, f"the schema can't be written: {fault}"
+        except (Refused, UnicodeDecodeError) as fault:
+            status, kind, text = 404 if isinstance(fault, Unknown) else 400, TEXT, str(fault)
+        self.reply(status, text.encode(), kind)
 
     # ---- what a client says
 

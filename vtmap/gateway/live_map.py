@@ -6,6 +6,7 @@ from collections import defaultdict
 from ..client.client import changes_in
 from ..client.feed import LeftBehind
 from ..faults import Stopped
+from ..files.map_schema import SchemaFile, schema_of
 from ..files.save_log import Unwritable
 from ..geometry.wholes import WHOLE, Whole, group_of, joined
 from .tables import NO_PAST, Past, Table, View
@@ -20,22 +21,25 @@ MOST_KNOWN, MOST_EMPTIED = 200_000, 1000
 
 class LiveMap:
     """The features of the map up to the edit `edits`. `client`: a `Leader`. `further`: types of tags by layer and kind, for tables and columns that the
-    map doesn't have yet. `log`: a `SaveLog`, which keeps the tables that lost their last feature, or None. Whoever uses it holds `lock`."""
+    map doesn't have yet. `log`: a `SaveLog`, which keeps the tables that lost their last feature, or None. `schema`: a `SchemaFile`, or None. Whoever
+    uses it holds `lock`."""
 
-    def __init__(self, client, further, log=None):
+    def __init__(self, client, further, log=None, schema=None):
         self.client, self.further, self.log, self.lock = client, further, log, threading.RLock()
+        self.schema = schema or SchemaFile()
         self.edits = None
         self.now, self.groups = {}, defaultdict(dict)
         self.views, self.members = {}, defaultdict(dict)
         # By layer and kind: the tables, and what those had that lost their last feature.
         self.emptied = {key: Past(*row) for key, row in log.emptied.items()} if log else {}
-        self.made_tables, self.changed_tables = {}, {*further, *self.emptied}
+        self.made_tables, self.changed_tables = {}, {*further, *self.emptied, *self.schema.now.tables()}
         self.known = {}
 
     # ---- following
 
     def look(self):
-        """Takes what others have changed."""
+        """Takes what others have changed, of the schema too."""
+        self.see_schema()
         for _ in range(TRIES):
             if self.edits is not None and self.follow():
                 return
@@ -132,13 +136,15 @@ class LiveMap:
 
     def tables(self):
         """The tables by their names."""
-        changed, self.changed_tables = self.changed_tables, set()
+        changed, self.changed_tables, schema = self.changed_tables, set(), self.schema.now
+        wanted = {*self.further, *schema.tables()}
         for key in changed:
             views, before = self.members[key].values(), self.made_tables.get(key)
             if before and before.views and not views:
                 self.empty(key, before.past())
-            if views or key in self.further or key in self.emptied:
-                self.made_tables[key] = Table(key, views, self.further.get(key, {}), NO_PAST if views else self.emptied.get(key, NO_PAST))
+            if views or key in wanted or key in self.emptied:
+                past = NO_PAST if views else self.emptied.get(key, NO_PAST)
+                self.made_tables[key] = Table(key, views, self.further.get(key, {}), past, schema.layers.get(key[0]))
             else:
                 self.made_tables.pop(key, None)
         return {table.name: table for _, table in sorted(self.made_tables.items())}
@@ -156,6 +162,21 @@ class LiveMap:
                 self.log.empty(key, past)
         except Unwritable as fault:
             print(fault, flush=True)
+
+    # ---- the schema
+
+    def see_schema(self):
+        """Reads the schema anew if its file has changed. Returns it."""
+        if self.schema.look():
+            self.changed_tables |= {*self.members, *self.made_tables, *self.schema.now.tables()}
+        return self.schema.now
+
+    def add_to_schema(self, more):
+        """Adds what another schema has more to the file. A layer that the file doesn't name gets what the map has of it, too. Returns the schema."""
+        new = [name for name in more.layers if name not in self.schema.read().layers]
+        there = schema_of(view.feature for name in new for key, views in self.members.items() if key[0] == name for view in views.values())
+        self.schema.add(there.added(more))
+        return self.see_schema()
 
     # ---- versions
 

@@ -38,20 +38,21 @@ class View:
 
 class Table:
     """The features of one kind of one layer. `columns`: the tag and the type of each, by its name. `further`: types of tags that a feature may get.
-    `past`: what it had, if it has no feature any more."""
+    `past`: what it had, if it has no feature any more. `rules`: the layer as the schema has it, or None."""
 
-    def __init__(self, key, views, further, past=NO_PAST):
+    def __init__(self, key, views, further, past=NO_PAST, rules=None):
         self.layer, self.kind = key
-        self.name, self.title = table_name(*key), f"{self.layer} ({KINDS[self.kind]})"
+        self.rules, title = rules, rules and rules.title
+        self.name, self.title = table_name(*key), f"{title or self.layer} ({KINDS[self.kind]})"
         self.views = sorted(views, key=lambda view: view.number)
         values = defaultdict(list)
         for view in self.views:
             for tag, value in view.feature["tags"].items():
                 values[tag].append(value)
-        self.columns = named_columns({**past.forms, **further, **{tag: form_of(values[tag]) for tag in values}})
+        self.columns = named_columns({**past.forms, **(rules.forms() if rules else {}), **further, **{tag: form_of(values[tag]) for tag in values}})
         self.is_several = self.kind != "points" or past.is_several or any(len(view.feature["geometry"][self.kind]) > 1 for view in self.views)
         zooms = Counter(tuple(view.feature[zoom] for zoom in ZOOMS) for view in self.views)
-        self.zooms = zooms.most_common(1)[0][0] if zooms else past.zooms
+        self.zooms = rules and rules.zooms or (zooms.most_common(1)[0][0] if zooms else past.zooms)
         self.box = around([view.box for view in self.views]) if self.views else None
         self.form = self.is_several, tuple(self.columns.items())
 

@@ -5,6 +5,7 @@ from ..client.edits import text_bytes
 from ..client.refusals import WORDS
 from ..faults import Refused
 from ..files.checkout_file import KINDS, ZOOMS, normal, tag_of
+from ..files.map_schema import TYPES, missing
 from ..geometry.shapes import bounds, reach
 from ..limits import GREATEST_ZOOM, MOST_NAME, MOST_REACH, MOST_TAG, MOST_TAGS, MOST_TEXT
 from ..markup import sayable
@@ -43,7 +44,7 @@ def changed(feature, action, table, number=None):
             made[key] = zoom(value, dict(zip(ZOOMS, table.zooms))[key], f"{name}: {key}")
         elif key not in OWN and isinstance(value, (str, type(None))):
             set_tag(made["tags"], key, value, table, name)
-    fault = fault_of(made)
+    fault = fault_of(made) or fault_by_schema(table, None if number is None else feature["tags"], made["tags"])
     if fault:
         raise Refused(f"{name}: {fault}")
     return made
@@ -66,7 +67,9 @@ def zoom(text, usual, name):
 def set_tag(tags, column, text, table, name):
     """Sets the tag of a column; without a text it is removed."""
     tag, form = table.columns.get(column, (map_name(column), "TEXT"))
-    value = tag_value(text, form, tags.get(tag), f"{name}: {tag}")
+    field = table.rules and table.rules.fields.get(tag)
+    value = tag_value(text, TYPES[field.type] if field else form, tags.get(tag), f"{name}: {tag}")
+    value = field.fitted(value) if field and value != tags.get(tag) else value
     tags.pop(tag, None)
     if value is not None:
         tags[tag] = value
@@ -86,6 +89,15 @@ def tag_value(text, form, before, name):
     if form != "TEXT":
         raise Refused(f"{name} is {'no whole number' if form == 'INTEGER' else 'neither true nor false'}: {text}")
     return tag_of(text, before)
+
+
+def fault_by_schema(table, before, after):
+    """Why the schema doesn't allow these tags in place of those before (None: of a new feature), or None."""
+    if table.rules is None:
+        return None
+    known = {tag for tag, _ in table.columns.values()} | set(before or ())
+    unknown = [tag for tag in table.rules.unknown(after) if tag not in known]
+    return missing(table.layer, unknown[0]) if unknown else table.rules.fault(before, after)
 
 
 # ---- what the server wouldn't take: it says so too, but not of which feature

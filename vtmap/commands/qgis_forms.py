@@ -1,0 +1,116 @@
+"""The layers of QGIS's gateway in a QGIS project, to be edited there, with forms by the schema of the map. Needs no package."""
+import re
+
+from ..faults import Stopped
+from ..files.checkout_file import KINDS
+from ..gateway.actions import parsed
+from ..gateway.names import map_name
+from ..gateway.tables import ID
+from ..geometry.gml import local
+from ..markup import Xml, element
+
+# By the kinds of shapes: what QGIS calls them.
+GEOMETRIES = {"points": "Point", "lines": "Line", "areas": "Polygon"}
+# What QGIS takes for no value in a list of values. A constraint that a value is needed, which warns: what a feature hasn't had isn't asked for.
+NO_VALUE, NOT_NULL, WARNS = "{2839923C-8B7D-419E-B84B-CA2FE9B80EC7}", 1, 2
+DAY = {"allow_null": True, "calendar_popup": True, "display_format": "yyyy-MM-dd", "field_format": "yyyy-MM-dd", "field_iso_format": False}
+TRUTHS = {"CheckedState": "true", "UncheckedState": "false"}
+
+
+class Editable:
+    """A layer of the gateway: its name and title there, the layer of the map, the kind of its shapes, and its columns."""
+
+    def __init__(self, name, title, columns):
+        self.name, self.title, self.columns = name, title, columns
+        layer, _, self.kind = name.rpartition(".")
+        self.layer, self.id = map_name(layer), "vtserve_" + re.sub(r"\W", "_", name)
+
+
+def editable_layers(client):
+    """The layers of the gateway."""
+    known = {local(child): child for child in parsed(asked(client, "GetCapabilities"))}
+    titles = {}
+    for row in known.get("FeatureTypeList", ()):
+        said = {local(child): child.text or "" for child in row}
+        if "Name" in said:
+            titles[said["Name"].rpartition(":")[2]] = said.get("Title", said["Name"])
+    columns = columns_in(parsed(asked(client, "DescribeFeatureType")))
+    return [Editable(name, title, columns.get(name, [])) for name, title in titles.items() if name.rpartition(".")[2] in KINDS.values()]
+
+
+def asked(client, request):
+    """The reply of the gateway to a request."""
+    status, content = client.ask("GET", f"/wfs?SERVICE=WFS&VERSION=1.1.0&REQUEST={request}")
+    if status != 200:
+        client.stop_at(status, content)
+        raise Stopped(f"{client.address} has no gateway for QGIS ({status}): start `vtmap wfs`, or leave --edit out")
+    return content
+
+
+def columns_in(root):
+    """The names of the columns of each layer, but for its shape."""
+    found = {}
+    for kind in (child for child in root if local(child) == "complexType"):
+        names = [part.get("name") for part in kind.iter() if local(part) == "element" and part.get("type", "").startswith("xsd:")]
+        found[kind.get("name", "").removesuffix("Type")] = names
+    return found
+
+
+def option(name, value):
+    """An option of QGIS: a text, a truth, or a list of pairs of what people read and a value."""
+    named = {"name": name} if name else {}
+    if isinstance(value, list):
+        return element("Option", *[element("Option", option(told, one), type="Map") for told, one in value], type="List", **named)
+    if isinstance(value, bool):
+        return element("Option", type="bool", value=str(value).lower(), **named)
+    return element("Option", type="QString", value=value, **named)
+
+
+def widget_of(field):
+    """How QGIS edits a field: its name of that, and the options."""
+    if field.choices is not None:
+        none = [] if field.required else [("", NO_VALUE)]
+        return "ValueMap", {"map": none + [(str(value), str(value)) for value in field.choices]}
+    if field.type == "boolean":
+        return "CheckBox", TRUTHS
+    return ("DateTime", DAY) if field.type == "date" else ("TextEdit", {})
+
+
+def form_of(layer, rules):
+    """The forms of a layer by the schema's rules for it, or None."""
+    fields = {column: rules.fields.get(map_name(column)) for column in layer.columns} if rules else {}
+    known = {column: field for column, field in fields.items() if field}
+    widgets, aliases, constraints = [], [], []
+    for column, field in known.items():
+        name, options = widget_of(field)
+        config = element("config", element("Option", *[option(key, value) for key, value in options.items()], type="Map"))
+        widgets.append(element("field", element("editWidget", config, type=name), name=column))
+        if field.label:
+            aliases.append(element("alias", field=column, index=layer.columns.index(column), name=field.label))
+        if field.required:
+            constraints.append(element("constraint", field=column, constraints=NOT_NULL, notnull_strength=WARNS, unique_strength=0, exp_strength=0))
+    editable = [element("field", name=column, editable=int(column != ID)) for column in layer.columns]
+    label = next((column for column in known if rules.label == map_name(column)), None)
+    shown = [element("previewExpression", f'"{label}"')] if label else []
+    return [element("fieldConfiguration", *widgets), element("aliases", *aliases), element("constraints", *constraints),
+            element("editable", *editable), *shown]
+
+
+def layer_xml(layer, address, system, rules):
+    """A layer of a project."""
+    source = (f" pagingEnabled='true' preferCoordinatesForWfsT11='false' restrictToRequestBBOX='1' srsname='EPSG:3857' typename='v:{layer.name}' "
+              f"url='{address}/wfs' version='auto'")
+    return source, element("maplayer", element("id", layer.id), element("datasource", source), element("layername", layer.title),
+                           element("srs", Xml(system)), element("provider", "WFS", encoding="UTF-8"), *form_of(layer, rules),
+                           type="vector", geometry=GEOMETRIES[layer.kind], hasScaleBasedVisibilityFlag="0")
+
+
+def in_project(client, schema, system):
+    """The parts of a project that show the gateway's layers, points above lines above areas: of its tree, of its layers, and of their order."""
+    layers = sorted(editable_layers(client), key=lambda layer: (list(GEOMETRIES).index(layer.kind), layer.name))
+    tree, made = [], []
+    for layer in layers:
+        source, xml = layer_xml(layer, client.address, system, schema.layers.get(layer.layer))
+        made.append(xml)
+        tree.append(element("layer-tree-layer", id=layer.id, name=layer.title, checked="Qt::Checked", expanded="0", providerKey="WFS", source=source))
+    return "".join(tree), "".join(made), "".join(element("layer", id=layer.id) for layer in layers)
