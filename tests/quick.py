@@ -69,6 +69,7 @@ PARTS = [
     page_of("docs/DEPLOYING.md"),
     page_of("docs/OFFICE.md"),
     client("ogc"),
+    client("standards"),
     client("admin"),
     page_of("docs/HTTP.md"),
     page_of("docs/COMMANDS.md"),

@@ -65,7 +65,9 @@ def asked(gateway, method, path, origin=None, kind="", body=None, **more):
 
 def wanted(is_own, kind, route):
     """The status of the reply to a POST."""
-    return 403 if not is_own else 404 if not route.startswith("/wfs") else 200 if kind in TAKEN else 415
+    if not is_own or route.startswith("/ogc"):
+        return 405 if is_own else 403
+    return 404 if not route.startswith("/wfs") else 200 if kind in TAKEN else 415
 
 
 def by_hand(cases, server, gateway):
@@ -83,12 +85,13 @@ def by_hand(cases, server, gateway):
 
 def other_methods(cases, gateway):
     """Other methods. What only reads is answered to all: no page of another origin gets to see it."""
-    for method, status in (("PUT", 501), ("DELETE", 501), ("PATCH", 501)):
+    own = [405 if route.startswith(("/wfs", "/ogc")) else 404 for route in ROUTES]
+    for method in ("PUT", "DELETE", "PATCH"):
         places = itertools.product((None, "http://example.org", "null"), ROUTES)
         found = [asked(gateway, method, route, origin) for origin, route in places]
-        cases.show(f"foreign: {method}", found, [status] * 4 + [403] * 8)
+        cases.show(f"foreign: {method}", found, own + [403] * 8)
     reads = "/wfs?REQUEST=GetCapabilities", "/ogc/"
-    for method, status in (("GET", 200), ("HEAD", 200), ("OPTIONS", 501)):
+    for method, status in (("GET", 200), ("HEAD", 200), ("OPTIONS", 204)):
         found = [asked(gateway, method, path, origin) for origin in (None, "http://example.org") for path in reads]
         cases.show(f"foreign: {method} is answered", found, [status] * 4)
     reply = curl(f"{gateway.url}/wfs?REQUEST=GetCapabilities", "-H", "Origin: http://example.org")

@@ -68,11 +68,12 @@ def documents(cases, url):
     west, south, east, north = listed[3]["extent"]["spatial"]["bbox"][0]
     cases.show("ogc: the extent of the places", (7.49 < west < east < 7.52, 54.49 < south < north < 54.51), (True, True))
     classes = [name.rpartition("/")[2] for name in asked(url + "/conformance")["conformsTo"]]
-    cases.show("ogc: what of the standard there is", classes, ["core", "oas30", "geojson"])
+    cases.show("ogc: what of the standard there is", classes, ["core", "oas30", "geojson", "crs"])
     api = asked(url + "/api")
     parameters = api["paths"]["/collections/building.areas/items"]["get"]["parameters"]
-    named = {parameter.get("name", parameter.get("$ref", "").rpartition("/")[2]) for parameter in parameters}
-    cases.show("ogc: the API names the parameters", named, {"bbox", "limit", "datetime", "after", "floors", "house", "f"})
+    shared = api["components"]["parameters"]
+    named = [shared[one["$ref"].rpartition("/")[2]]["name"] if "$ref" in one else one["name"] for one in parameters]
+    cases.show("ogc: the API names the parameters", sorted(named), sorted(["bbox", "bbox-crs", "crs", "limit", "datetime", "after", "floors", "house", "f"]))
     missing = [path for path in api["paths"] if "{" not in path and status_of(curl(url + path)) != 200]
     cases.show("ogc: each path of the API is there", (missing, len(api["paths"])), ([], 18))
     cases.show("ogc: HEAD", (status_of(curl(url + "/", "--head")), curl(url + "/", "--head")[2]), (200, b""))

@@ -50,6 +50,7 @@ from schemas import schema
 from screens import screens
 from several_maps import maps
 from stand import Cases
+from standards import standards
 from standby import long_follow, standby
 from steps import steps
 from surveys import gdal
@@ -105,6 +106,7 @@ def main():
         "wfs-qgis": wfs_qgis,
         "schema": schema,
         "ogc": ogc,
+        "standards": standards,
         "operation": operation,
         "admin": admin,
         "batches": batches,

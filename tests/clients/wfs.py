@@ -219,7 +219,7 @@ def hostile(cases, gateway):
         ("document type", '<!DOCTYPE a [<!ENTITY x "y">]><a>&x;</a>'),
         ("no XML", "<Transaction>"),
         ("no XML", " "),
-        ("GetFeature isn't taken", "<GetFeature/>"),
+        ("LockFeature isn't taken", "<LockFeature/>"),
         ("names no feature", f"<Transaction>{update}<Property><Name>name</Name><Value>1</Value></Property></Update></Transaction>"),
         ("no feature has the id", '<Transaction><Delete typeName="place.points"><Filter><FeatureId fid="nonsense"/></Filter></Delete></Transaction>'),
         ("no layer nix", '<Transaction><Delete typeName="nix"><Filter><FeatureId fid="place.points.451.0123456789abcdef"/></Filter></Delete></Transaction>'),
@@ -239,7 +239,7 @@ def hostile(cases, gateway):
         ("a post of another host", ["-H", "Host: example.org", "-H", XML, "--data-binary", "<a/>"], 421),
         ("no length", ["-X", "POST", "-H", XML, "-H", "Transfer-Encoding: chunked", "--data-binary", "<a/>"], 411),
         ("too long", ["-X", "POST", "-H", XML, "-H", f"Content-Length: {2 ** 26}"], 413),
-        ("another method", ["-X", "OPTIONS"], 501),
+        ("another method", ["-X", "TRACE"], 501),
     ]:
         cases.show(f"wfs: {name}", status_of(curl(url, *words)), status)
     for path in ("/", "/wfs/nonsense", "/wfs/0123456789/7", "/map/0/0/0.mvt"):

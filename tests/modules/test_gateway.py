@@ -491,7 +491,7 @@ class Ogc(unittest.TestCase):
         last = self.ask("/collections/p.points/items", limit="3", after="3")
         self.assertEqual(
             ([one["id"] for one in last["features"]], [link["rel"] for link in last["links"]]),
-            ([4], ["self", "collection"]),
+            ([4], ["self", "collection", "alternate", "alternate"]),
         )
 
     def test_boxes(self):

@@ -15,6 +15,7 @@ from ..gateway.live_map import LiveMap
 from ..gateway.ogc_api import OgcApi
 from ..gateway.saves import Saves
 from ..gateway.sessions import FORGOTTEN, Sessions
+from ..gateway.projections import Systems
 from ..gateway.wfs import Wfs
 from ..interpreters import look_for
 
@@ -50,7 +51,18 @@ def options(parser, _):
                         help="a layer that the map doesn't have yet, or further tags of one: KIND is points, lines or areas, FORM text, integer or boolean; "
                         "may be repeated")
     parser.add_argument("--behind-nginx", action="store_true", help="nginx passes requests on, and says by whom they are (docs/nginx.conf)")
+    parser.add_argument("--crs", type=code_of, action="append", default=[], metavar="EPSG:N", help="a coordinate system of OGC API Features beside "
+                        "the usual ones; may be repeated")
+    parser.add_argument("--cors", action="store_true", help="let pages of all origins read what is below /ogc: for a map that everybody may read")
     parser.add_argument("--publish", action="store_true", help="publish when the journal is full")
+
+
+def code_of(text):
+    """The number of a coordinate system."""
+    name, _, number = text.partition(":")
+    if name.upper() != "EPSG" or not number.isdecimal() or not 1024 <= int(number) <= 32767:
+        raise argparse.ArgumentTypeError("a coordinate system of EPSG is needed, as EPSG:31467")
+    return int(number)
 
 
 def layer_of(text):
@@ -77,7 +89,8 @@ def work(words):
         sessions.restore(row)
     live = LiveMap(Leader(words.url, words.publish), dict(words.layer), log, SchemaFile(words.schema))
     wfs = Wfs(live, sessions, Saves(live, log, words.log))
-    server = listener(words.port, wfs, OgcApi(live, wfs.look), words.behind_nginx)
+    api = OgcApi(live, wfs.look, Systems(words.crs))
+    server = listener(words.port, wfs, api, is_behind_nginx=words.behind_nginx, is_public=words.cors)
     begin(wfs)
     signal.signal(signal.SIGTERM, lambda *_: sys.exit(0))
     alive.tell(words.port)

@@ -180,7 +180,7 @@ def add_table(file, name, kind, is_several, columns, rows):
             xs.append(x)
             ys.append(y)
     form = NAMES[KINDS[kind] + (3 if is_several else 0)]
-    box = (min(xs), min(ys), max(xs), max(ys))
+    box = (min(xs), min(ys), max(xs), max(ys)) if xs else (None,) * 4
     file.execute("INSERT INTO gpkg_contents (table_name, data_type, identifier, min_x, min_y, max_x, max_y, srs_id) VALUES (?, 'features', ?, ?, ?, ?, ?, ?)",
                  (name, name, *box, MERCATOR))
     file.execute("INSERT INTO gpkg_geometry_columns VALUES (?, 'geom', ?, ?, 0, 0)", (name, form, MERCATOR))

@@ -22,6 +22,8 @@ from .ogc_texts import JSON
 WFS, OGC = "/wfs", "/ogc"
 # Where the schema is read, and where it gets more.
 SCHEMAS, SCHEMA = ("/wfs/schema.json", "/ogc/schema.json"), "/wfs/schema.json"
+# The methods of what is only read.
+READ = "GET, HEAD, OPTIONS"
 XML, TEXT = "text/xml; charset=utf-8", "text/plain; charset=utf-8"
 # The media types of a Transaction and of a schema, and the methods that change nothing.
 KINDS_OF_XML, KINDS_OF_JSON, READS = ("text/xml", "application/xml", "application/gml+xml"), ("application/json",), ("GET", "HEAD", "OPTIONS")
@@ -38,13 +40,14 @@ IDLE, PAUSE, SLOWEST, LINGER = 300, 30, 64 * 2 ** 10, 2
 
 
 class Handler(BaseHTTPRequestHandler):
-    """One connection. `wfs` and `ogc` answer. `is_behind_nginx`: whether nginx says who sends a request."""
+    """One connection. `wfs` and `ogc` answer. `is_behind_nginx`: whether nginx says who sends a request. `is_public`: whether pages of other origins may
+    read."""
 
     protocol_version = "HTTP/1.1"
     disable_nagle_algorithm = True
     timeout = IDLE
     wfs = ogc = None
-    is_behind_nginx = False
+    is_behind_nginx = is_public = False
 
     def log_message(self, *words):
         """Prints nothing: what was saved is printed elsewhere."""
@@ -103,7 +106,9 @@ class Handler(BaseHTTPRequestHandler):
         path, _, query = self.path.partition("?")
         session, length, is_meant = session_in(path), self.length(), ("delete-many", "true") in urllib.parse.parse_qsl(query)
         most, kinds = (map_schema.MOST_BYTES, KINDS_OF_JSON) if path == SCHEMA else (MOST_BODY, KINDS_OF_XML)
-        if length is None:
+        if is_read_only(path):
+            self.not_allowed()
+        elif length is None:
             self.refuse(411, "one Content-Length is needed")
         elif length > most:
             self.refuse(413, f"a body of at most {most:,} bytes is taken")
@@ -134,8 +139,8 @@ class Handler(BaseHTTPRequestHandler):
             self.refuse(503, "the gateway ends")
 
     def transact(self, session, body, is_meant):
-        """Makes a Transaction."""
-        self.answer_wfs(wfs_texts.V1, "OperationProcessingFailed", lambda: self.wfs.transaction(session, body, self.person(), is_meant))
+        """Makes a Transaction, or answers a request by XML that reads."""
+        self.answer_wfs(wfs_texts.V1, "OperationProcessingFailed", lambda: self.wfs.posted(session, body, self.address(WFS), self.person(), is_meant))
 
     # ---- the schema
 
@@ -210,7 +215,7 @@ class Handler(BaseHTTPRequestHandler):
         except (NoAnswer, Stopped) as stopped:
             text = wfs_texts.report(version, "NoApplicableCode", f"the map's server: {stopped}")
         except Fault as fault:
-            text = wfs_texts.report(version, code, str(fault))
+            text = wfs_texts.refused(version, code, fault)
         except RecursionError:
             text = wfs_texts.report(version, code, "the request is nested too deep")
         except Exception as fault:
@@ -219,25 +224,51 @@ class Handler(BaseHTTPRequestHandler):
 
     def answer_ogc(self, path, given):
         """Answers by OGC API Features."""
-        status, kind = 200, JSON
+        status, kind, fields = 200, JSON, []
         try:
-            kind, text = self.ogc.answer(path, given, self.address(OGC))
+            kind, data, fields = self.ogc.answer(path, given, self.address(OGC))
         except Unknown as unknown:
-            status, text = 404, refused("NotFound", unknown)
+            status, data = 404, refused("NotFound", unknown)
         except (NoAnswer, Stopped) as stopped:
-            status, text = 502, refused("NoApplicableCode", f"the map's server: {stopped}")
+            status, data = 502, refused("NoApplicableCode", f"the map's server: {stopped}")
         except Refused as fault:
-            status, text = 400, refused("InvalidParameterValue", fault)
+            status, data = 400, refused("InvalidParameterValue", fault)
         except Exception as fault:
-            status, text = 500, refused("NoApplicableCode", broken(fault))
-        self.reply(status, text.encode(), kind)
+            status, data = 500, refused("NoApplicableCode", broken(fault))
+        self.reply(status, data, kind, [*fields, *self.readable()])
 
-    def reply(self, status, data, kind):
-        """Sends a reply."""
+    def readable(self):
+        """What lets pages of other origins read a reply, if they may."""
+        return [("Access-Control-Allow-Origin", "*"), ("Access-Control-Expose-Headers", "Content-Crs, Content-Disposition")] if self.is_public else []
+
+    def do_OPTIONS(self):
+        """Says what may be asked of a path."""
+        path = self.path.partition("?")[0]
+        if is_read_only(path):
+            asked = [("Access-Control-Allow-Methods", READ), ("Access-Control-Allow-Headers", "*"), *self.readable()] if self.is_public else []
+            self.reply(204, b"", None, [("Allow", READ), *asked])
+        elif path == SCHEMA or session_in(path) is not None:
+            self.reply(204, b"", None, [("Allow", f"{READ}, POST")])
+        else:
+            self.reply(404, b"NotFound", TEXT)
+
+    def not_allowed(self):
+        """Refuses a method that changes something where nothing is changed so."""
+        path = self.path.partition("?")[0]
+        if is_read_only(path) or path == SCHEMA or session_in(path) is not None:
+            self.refuse(405, "the method isn't taken here", [("Allow", READ if is_read_only(path) else f"{READ}, POST"), *self.readable()])
+        else:
+            self.refuse(404, "NotFound")
+
+    do_PUT = do_DELETE = do_PATCH = not_allowed
+
+    def reply(self, status, data, kind, more=()):
+        """Sends a reply. `more`: further fields of it."""
         is_zipped = len(data) >= LEAST_GZIP and "gzip" in self.headers.get("accept-encoding", "")
         data = gzip.compress(data, 1) if is_zipped else data
         # Another client of the same address needs another session.
-        fields = [("Content-Type", kind), ("Content-Length", len(data)), ("Cache-Control", "no-store"), *SAFETY]
+        fields = [("Content-Type", kind), ("Content-Length", len(data))] if kind else []
+        fields += [("Cache-Control", "no-store"), *SAFETY, *more]
         fields += [("Content-Encoding", "gzip")] if is_zipped else []
         fields += [("Connection", "close")] if self.close_connection else []
         head = "\r\n".join([f"HTTP/1.1 {status} {http.HTTPStatus(status).phrase}", *(f"{name}: {value}" for name, value in fields), "", ""])
@@ -249,10 +280,10 @@ class Handler(BaseHTTPRequestHandler):
             # A GIS no longer waits once somebody has moved the map on.
             self.close_connection = True
 
-    def refuse(self, status, text):
+    def refuse(self, status, text, more=()):
         """Refuses a request whose body, if it has one, isn't read, and ends the connection."""
         self.close_connection = True
-        self.reply(status, text.encode(), TEXT)
+        self.reply(status, text.encode(), TEXT, more)
         # A connection that is closed while the client sends is reset, and the client gets no reply.
         end = time.monotonic() + LINGER
         try:
@@ -338,9 +369,14 @@ def session_in(path):
     return found and (found[1] or "")
 
 
+def is_read_only(path):
+    """Whether a path is only read."""
+    return path == OGC or path.startswith(OGC + "/")
+
+
 def refused(code, text):
     """A refusal of OGC API Features."""
-    return json.dumps({"code": code, "description": str(text)}, ensure_ascii=False)
+    return json.dumps({"code": code, "description": str(text)}, ensure_ascii=False).encode(errors="replace")
 
 
 def broken(fault):
@@ -349,9 +385,9 @@ def broken(fault):
     return f"the request can't be understood ({type(fault).__name__}: {fault})"
 
 
-def listener(port, wfs, ogc, is_behind_nginx):
-    """Listens on a port."""
-    handler = type("Here", (Handler,), {"wfs": wfs, "ogc": ogc, "is_behind_nginx": is_behind_nginx})
+def listener(port, wfs, ogc, **known):
+    """Listens on a port. `known`: whether it is behind nginx, and public."""
+    handler = type("Here", (Handler,), {"wfs": wfs, "ogc": ogc, **known})
     try:
         return Listener((HERE, port), handler)
     except OSError as fault:

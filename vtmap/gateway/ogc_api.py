@@ -1,20 +1,20 @@
-"""The requests of OGC API Features (Part 1: Core), answered: whatever reads GeoJSON reads the map of now. Needs no package."""
+"""The requests of OGC API Features (Part 1: Core, Part 2: coordinate systems), answered: whatever reads GeoJSON reads the map of now. Needs no package."""
 import json
+import math
 import re
 import time
 import urllib.parse
 
 from ..faults import Refused
-from ..geometry.geojson import geojson_of
 from ..geometry.wholes import right_handed
-from ..geometry.world import WORLD, shares
 from . import ogc_texts
-from .ogc_texts import FORMAT, GEOJSON, JSON, MOST, OPENAPI, PARAMETERS, USUAL
+from .downloads import CSV, GEOPACKAGE, csv_of, geopackage_of
+from .ogc_texts import CRS, FORMAT, GEOJSON, JSON, MOST, OPENAPI, PARAMETERS, USUAL
+from .projections import Systems
 from .tables import meets, text_of
 
-# Digits of a degree: a hundredth of a square of the map.
-DIGITS = 8
-FORMATS = ("json", "geojson")
+# The formats, and those of a file of features to download.
+FORMATS, FILES = ("json", "geojson"), ("csv", "gpkg")
 # A time of RFC 3339, or an interval, which may be open.
 TIME = r"[0-9]{4}-[0-9]{2}-[0-9]{2}([Tt][0-9]{2}:[0-9]{2}:[0-9]{2}(\.[0-9]+)?([Zz]|[-+][0-9]{2}:[0-9]{2}))?"
 TIMES = re.compile(rf"{TIME}|({TIME}|\.\.)?/({TIME}|\.\.)?|\.\.")
@@ -27,22 +27,23 @@ class Unknown(Refused):
 class OgcApi:
     """The OGC API of a live map. `look`: takes what others have changed."""
 
-    def __init__(self, live, look):
-        self.live, self.look = live, look
+    def __init__(self, live, look, systems=None):
+        self.live, self.look, self.systems = live, look, systems or Systems()
 
     def answer(self, path, given, address):
-        """The media type and the content of the reply to a request. `path`: what comes after the address."""
+        """The media type, the content and further fields of the reply to a request. `path`: what comes after the address."""
         with self.live.lock:
             self.look()
             tables = self.live.tables()
         # Tables and views stay as they are: others go on while the reply is made.
         parts = [urllib.parse.unquote(part) for part in path.strip("/").split("/")] if path.strip("/") else []
+        fields = []
         if parts[:1] == ["collections"] and 2 <= len(parts) <= 4:
-            kind, found = self.collection(parts[1:], tables, given, address)
+            kind, found, fields = self.collection(parts[1:], tables, given, address)
         else:
-            kind, found = whole(parts, tables.values(), address)
+            kind, found = whole(parts, tables.values(), address, self.systems.names)
             see_names(given, ())
-        return kind, json.dumps(found, ensure_ascii=False, separators=(",", ":"))
+        return kind, found if isinstance(found, bytes) else json.dumps(found, ensure_ascii=False, separators=(",", ":")).encode(), fields
 
     def collection(self, parts, tables, given, address):
         """The reply about a collection, its features, or one of them."""
@@ -52,41 +53,63 @@ class OgcApi:
         if parts[1:2] not in ([], ["items"]):
             raise Unknown("no such path")
         here = ogc_texts.place(address, table)
-        if len(parts) == 2:
-            return GEOJSON, items(table, given, here)
-        see_names(given, ())
-        return (JSON, ogc_texts.collection(address, table)) if len(parts) == 1 else (GEOJSON, self.item(table, parts[2], here))
+        if len(parts) == 1:
+            see_names(given, ())
+            return JSON, ogc_texts.collection(address, table, self.systems.names), []
+        system = self.systems.of(given.get("crs", CRS), "crs")
+        fields = [("Content-Crs", f"<{system.name}>")]
+        if len(parts) == 3:
+            see_names(given, ["crs"])
+            return GEOJSON, self.item(table, parts[2], here, system), fields
+        box_system = self.systems.of(given.get("bbox-crs", CRS), "bbox-crs")
+        if given.get("f") in FILES:
+            return download(table, given, system, box_system)
+        return GEOJSON, items(table, given, here, system, box_system), fields
 
-    def item(self, table, text, here):
+    def item(self, table, text, here, system):
         """One feature."""
         with self.live.lock:
             view = self.live.views.get(int(text)) if re.fullmatch("[0-9]{1,19}", text) else None
         if view is None or view.key != (table.layer, table.kind):
             raise Unknown(f"{table.name} has no feature {text}")
         links = [ogc_texts.link("self", GEOJSON, f"{here}/items/{view.number}", "this feature"), ogc_texts.link("collection", JSON, here, table.title)]
-        return {**geojson(view), "links": links}
+        return {**geojson(view, system), "links": links}
 
 
-def whole(parts, tables, address):
+def whole(parts, tables, address, systems):
     """The reply about all of it."""
     if not parts:
         return JSON, ogc_texts.landing(address)
     if parts == ["conformance"]:
         return JSON, {"conformsTo": ogc_texts.CLASSES}
     if parts == ["api"]:
-        return OPENAPI, ogc_texts.api(address, tables)
+        return OPENAPI, ogc_texts.api(address, tables, systems)
     if parts == ["collections"]:
-        return JSON, ogc_texts.collections(address, tables)
+        return JSON, ogc_texts.collections(address, tables, systems)
     raise Unknown("no such path")
 
 
-def items(table, given, here):
-    """A page of features, in the order of their ids. The next one begins after the last id, so no feature is listed twice while others edit."""
-    see_names(given, [*PARAMETERS, *(tag for tag, _ in table.columns.values())])
-    boxes = boxes_of(given.get("bbox"))
+def chosen(table, given, box_system):
+    """The features that a request asks for, in the order of their ids."""
+    see_names(given, [*PARAMETERS, *(tag for tag, _ in table.columns.values())], (*FORMATS, *FILES))
+    boxes = boxes_of(given.get("bbox"), box_system)
     if not TIMES.fullmatch(given.get("datetime", "..")):
         raise Refused(f"datetime is no time and no interval: {given['datetime']}")
-    found = [view for view in table.views if is_asked(view, table, boxes, given)]
+    return [view for view in table.views if is_asked(view, table, boxes, given)]
+
+
+def download(table, given, system, box_system):
+    """All features that a request asks for, as a file."""
+    found, form = chosen(table, given, box_system), given["f"]
+    if form == "gpkg" and "crs" in given:
+        raise Refused("a GeoPackage is written in Web Mercator: leave crs out")
+    fields = [("Content-Disposition", f"attachment; filename*=UTF-8''{urllib.parse.quote(table.name, safe='')}.{form}")]
+    return (CSV, csv_of(table, found, system), fields) if form == "csv" else (GEOPACKAGE, geopackage_of(table, found), fields)
+
+
+def items(table, given, here, system, box_system):
+    """A page of features. The next one begins after the last id, so no feature is listed twice while others edit."""
+    found = chosen(table, given, box_system)
     after, limit = number_of(given, "after", 0), min(number_of(given, "limit", USUAL), MOST)
     if limit == 0:
         raise Refused("limit is 0")
@@ -95,7 +118,10 @@ def items(table, given, here):
     links = [ogc_texts.link("self", GEOJSON, with_query(here, given), "this page"), ogc_texts.link("collection", JSON, here, table.title)]
     if len(left) > limit:
         links.append(ogc_texts.link("next", GEOJSON, with_query(here, {**given, "after": str(page[-1].number)}), "the next page"))
-    return {"type": "FeatureCollection", "features": [geojson(view) for view in page], "links": links, "numberMatched": len(found),
+    plain = {name: value for name, value in given.items() if name not in ("limit", "after", "f", "crs")}
+    links += [ogc_texts.link("alternate", kind.split(";")[0], with_query(here, {**plain, "f": form}), f"all of them as {named}")
+              for form, kind, named in (("csv", CSV, "CSV"), ("gpkg", GEOPACKAGE, "GeoPackage"))]
+    return {"type": "FeatureCollection", "features": [geojson(view, system) for view in page], "links": links, "numberMatched": len(found),
             "numberReturned": len(page), "timeStamp": time.strftime("%Y-%m-%dT%H:%M:%SZ", time.gmtime())}
 
 
@@ -112,13 +138,13 @@ def with_query(here, given):
     return f"{here}/items" + (f"?{urllib.parse.urlencode(given)}" if given else "")
 
 
-def see_names(given, names):
+def see_names(given, names, formats=FORMATS):
     """Refuses parameters that a path doesn't have, and formats that there aren't."""
     wrong = [name for name in given if name not in (*names, *FORMAT)]
     if wrong:
         raise Refused(f"there is no parameter {wrong[0]}")
-    if given.get("f", FORMATS[0]) not in FORMATS:
-        raise Refused(f"there is no format {given['f']}: json is the only one")
+    if given.get("f", FORMATS[0]) not in formats:
+        raise Refused(f"there is no format {given['f']}, but {', '.join(formats)}")
 
 
 def number_of(given, name, usual):
@@ -129,8 +155,8 @@ def number_of(given, name, usual):
     return int(text)
 
 
-def boxes_of(text):
-    """The boxes of the map that the parameter bbox has: two if it crosses the 180th meridian."""
+def boxes_of(text, system):
+    """The boxes of the map that the parameter bbox has, in a system."""
     if text is None:
         return []
     try:
@@ -139,25 +165,13 @@ def boxes_of(text):
         parts = []
     if len(parts) == 6:
         parts = parts[:2] + parts[3:5]
-    if len(parts) != 4 or not (abs(parts[0]) <= 180 >= abs(parts[2]) and -90 <= parts[1] <= parts[3] <= 90):
-        raise Refused(f"bbox has four numbers, west, south, east and north in degrees: {text}")
-    west, south, east, north = parts
-    return [box_of(west, south, east, north)] if west <= east else [box_of(west, south, 180, north), box_of(-180, south, east, north)]
+    if len(parts) != 4 or not all(math.isfinite(part) for part in parts):
+        raise Refused(f"bbox has four numbers, those of the least corner before those of the greatest: {text}")
+    return system.box(parts)
 
 
-def box_of(west, south, east, north):
-    """A box of the map of one in degrees."""
-    (left, top), (right, bottom) = (shares(longitude, min(max(latitude, -89.99), 89.99)) for longitude, latitude in ((west, north), (east, south)))
-    return left * WORLD, top * WORLD, right * WORLD, bottom * WORLD
-
-
-def geojson(view):
+def geojson(view, system):
     """A feature, its rings in the directions of GeoJSON."""
-    made = geojson_of(view.number, right_handed(view.feature))
-    made["geometry"]["coordinates"] = rounded(made["geometry"]["coordinates"])
-    return made
-
-
-def rounded(places):
-    """Coordinates, rounded: each place stays in its square of the map."""
-    return [rounded(part) for part in places] if isinstance(places, list) else round(places, DIGITS)
+    feature = right_handed(view.feature)
+    rest = {name: feature[name] for name in ("layer", "minzoom", "maxzoom")}
+    return {"type": "Feature", "id": view.number, **rest, "properties": feature["tags"], "geometry": system.geometry(feature["geometry"])}

@@ -9,13 +9,16 @@ from ..files.save_log import Unwritable
 from ..geometry.gml import SYSTEM, local
 from ..shown import shown
 from . import wfs_texts
-from .actions import actions_of, parsed, type_in
+from .actions import OF_IDS, actions_of, parsed, type_in
 from .filters import box_of, test_of
 from .transaction import AGAIN, Conflict, Doubted, Transaction, is_there
+from .wfs_requests import (BY_ID, BY_ID_NAMES, CAPABILITIES, DESCRIBED, LISTED, READS, SCHEMA, VALUES, Invalid, columns_in, given_in, in_order, invalid,
+                           name_in, request_of, see_column, see_format, version_of)
+from .wfs_texts import V2
 
-# The hexadecimal digits of the name of a session.
-NAME_BYTES = 5
-CAPABILITIES, SCHEMA, FEATURES = "getcapabilities", "describefeaturetype", "getfeature"
+# The most elements of a filter, beside ids; the bytes of the name of a session; and an id of a feature without its version.
+MOST_PARTS, NAME_BYTES = 5000, 5
+WITHOUT_VERSION = re.compile(r"(?:v:)?([^\s<>&]+)\.([0-9]{1,19})")
 
 
 class Wfs:
@@ -36,60 +39,122 @@ class Wfs:
 
     # ---- reading
 
-    def answer(self, name, given, address):
-        """The reply to a request with these parameters, by names in small letters. `name`: that of the session, empty for none."""
-        request = given.get("request", "").lower()
+    def answer(self, name, given, address, queries=()):
+        """The reply to a request with these parameters, by names in small letters. `name`: that of the session, empty for none. `queries`: the parameters
+        of each query of a request by XML; another one is a query itself."""
         version = version_of(given)
-        if request not in (CAPABILITIES, SCHEMA, FEATURES):
-            raise Refused(f"no such request: {given.get('request')}")
+        request = request_of(given, version)
         with self.live.lock:
             self.look()
-            tables, session = self.live.tables(), self.sessions.get(name)
+            tables = self.live.tables()
         # Tables and views stay as they are: others go on while features are chosen and written.
         if request == CAPABILITIES:
             # Two layers of a GIS have the same id with different contents, so each has an address of its own: QGIS uses this one.
             return wfs_texts.capabilities(version, tables.values(), f"{address}/{name or secrets.token_hex(NAME_BYTES)}")
-        asked = named_tables(given, tables)
+        if request in (LISTED, DESCRIBED):
+            return stored(request, given, tables.values())
+        see_format(given.get("outputformat"), version)
         if request == SCHEMA:
-            return wfs_texts.schema(version, asked)
-        see_system(given.get("srsname"))
-        return self.features(version, name, given, *chosen_in(session, given, asked))
+            return wfs_texts.schema(version, named_tables(given, tables))
+        queries = queries or [given]
+        if any("storedquery_id" in query for query in queries):
+            return self.by_id(version, name, given, queries, request == VALUES)
+        found, fids, matched = self.found(name, given, [self.chosen(name, query, tables) for query in queries])
+        if request == VALUES:
+            return values(given.get("valuereference"), found, fids, matched)
+        wanted = {}
+        for query in queries:
+            wanted.update(columns_in(query.get("propertyname"), named_tables(query, tables)))
+        return wfs_texts.features(version, found, fids, matched, wanted)
 
-    def features(self, version, name, given, chosen, is_plain):
-        """The features that were chosen. `is_plain`: by nothing but a box."""
+    def chosen(self, name, query, tables):
+        """The views of each table that a query asks for, in their order; whether it names nothing but a box, and that box."""
+        see_system(query.get("srsname"))
+        made, is_plain = chosen_in(self.sessions.get(name), query, named_tables(query, tables))
+        return [(table, in_order(views, query.get("sortby"), table)) for table, views in made], is_plain, box_of(query.get("bbox"))
+
+    def found(self, name, given, chosen):
+        """The features that queries ask for, as pairs of table and view, with their ids, and how many there are with those that aren't returned."""
+        if given.get("resulttype", "results").lower() not in ("results", "hits"):
+            raise invalid("resultType", f"RESULTTYPE {given['resulttype']} isn't known: results and hits are")
         if given.get("resulttype", "").lower() == "hits":
-            return wfs_texts.features(version, [], [], sum(len(views) for _, views in chosen))
+            return [], [], sum(len(views) for tables, _, _ in chosen for _, views in tables)
         with self.live.lock:
-            session, box = self.sessions.get(name), box_of(given.get("bbox"))
-            found = [(table, view) for table, views in chosen for view in (session.pinned(table, box, views) if is_plain else views)]
+            session = self.sessions.get(name)
+            found = [(table, view) for tables, is_plain, box in chosen for table, views in tables
+                     for view in (session.pinned(table, box, views) if is_plain else views)]
             matched, first = len(found), number_in(given, ("startindex",), 0)
             found = found[first:first + number_in(given, ("count", "maxfeatures"), matched)]
-            for _, view in found:
-                self.live.remember(view.number, view.version, view.feature)
-            session.give(found)
-            fids = [session.fid(table, view.number, view.version) for table, view in found]
-            self.sessions.keep(name, session)
-        return wfs_texts.features(version, found, fids, matched)
+            return found, self.give(name, session, found), matched
+
+    def give(self, name, session, found):
+        """Notes that a GIS gets features. Returns their ids. Whoever calls it holds the lock."""
+        for _, view in found:
+            self.live.remember(view.number, view.version, view.feature)
+        session.give(found)
+        fids = [session.fid(table, view.number, view.version) for table, view in found]
+        self.sessions.keep(name, session)
+        return fids
+
+    def by_id(self, version, name, given, queries, is_value):
+        """The reply to the stored query: the one feature of an id, and no collection, or a value of it."""
+        query = {**given, **queries[0]}
+        if version is not V2 or len(queries) > 1 or query["storedquery_id"] not in BY_ID_NAMES:
+            raise invalid("STOREDQUERY_ID", f"there is no stored query {query['storedquery_id']}, but {BY_ID}")
+        if not query.get("id"):
+            raise Invalid("MissingParameterValue", "ID", "it doesn't say of which feature")
+        with self.live.lock:
+            session = self.sessions.get(name)
+            table, view = self.named(session, query["id"])
+            if given.get("resulttype", "").lower() == "hits":
+                return wfs_texts.features(version, [], [], 1)
+            (fid,) = self.give(name, session, [(table, view)])
+        if is_value:
+            return values(given.get("valuereference"), [(table, view)], [fid], 1)
+        return wfs_texts.feature(version, table, view, fid)
+
+    def named(self, session, text):
+        """The table and the view of a feature that an id names, with its version or without."""
+        found = WITHOUT_VERSION.fullmatch(text)
+        try:
+            number = int(found[2]) if found else session.held(text)[0]
+        except Refused:
+            number = None
+        view = self.live.views.get(number)
+        table = view and next(table for table in self.live.tables().values() if (table.layer, table.kind) == view.key)
+        if table is None or (found and found[1] != table.name):
+            raise Invalid("NotFound", "ID", f"no feature has the id {text}")
+        return table, view
 
     # ---- saving
 
-    def transaction(self, name, body, person, is_meant=False):
-        """The reply to a Transaction. `person`: who sends it, a name or an address. `is_meant`: whatever it deletes, it isn't asked whether that is
+    def posted(self, name, body, address, person, is_meant=False):
+        """The reply to a request by XML. `person`: who sends it, a name or an address. `is_meant`: whatever it deletes, it isn't asked whether that is
         meant."""
         # One at a time: what is parsed may be several times as large as the body.
         with self.turn:
             root = parsed(body)
-            if local(root) != "Transaction":
-                raise Refused(f"a body with {local(root)} isn't taken")
-            with self.live.lock:
-                self.look(is_saving=True)
-                session, mark = self.sessions.get(name), hashlib.sha256(body).hexdigest()
-                # If the reply to it was lost, the GIS sends the same again: its new features are made once, as long as they are on the map.
-                again = session.added if session.mark == mark else []
-                counts, added = {"Insert": len(again), "Update": 0, "Delete": 0}, again
-                if not again or not all(is_there(self.live, session, fid) for fid in again):
-                    counts, added = self.save((name, session), actions_of(root), again, mark, (person, is_meant))
-                return wfs_texts.transacted(root.get("version", wfs_texts.V1.name), counts, added)
+            if local(root) == "Transaction":
+                return self.transaction(name, root, body, person, is_meant)
+        if local(root).lower() not in READS:
+            raise Refused(f"a body with {local(root)} isn't taken")
+        given, queries = given_in(root)
+        try:
+            return self.answer(name, given, address, queries)
+        except Refused as fault:
+            return wfs_texts.refused(wfs_texts.chosen(given.get("version", V2.name)), "InvalidParameterValue", fault)
+
+    def transaction(self, name, root, body, person, is_meant):
+        """The reply to a Transaction."""
+        with self.live.lock:
+            self.look(is_saving=True)
+            session, mark = self.sessions.get(name), hashlib.sha256(body).hexdigest()
+            # If the reply to it was lost, the GIS sends the same again: its new features are made once, as long as they are on the map.
+            again = session.added if session.mark == mark else []
+            counts, added = {"Insert": len(again), "Update": 0, "Delete": 0}, again
+            if not again or not all(is_there(self.live, session, fid) for fid in again):
+                counts, added = self.save((name, session), actions_of(root), again, mark, (person, is_meant))
+            return wfs_texts.transacted(root.get("version", wfs_texts.V1.name), counts, added)
 
     def save(self, named, actions, again, mark, said):
         """Makes a Transaction. `named`: the session, and its name before it. `said`: by whom it is, and whether what it deletes is meant. Returns its
@@ -122,11 +187,19 @@ def chosen_in(session, given, tables):
     """The views of each table that a request asks for, and whether it names nothing but a box."""
     box, fids = box_of(given.get("bbox")), given.get("featureid", given.get("resourceid"))
     wanted = {session.held(fid)[0] for fid in fids.split(",")} if fids else None
-    asked, made = parsed(given["filter"].encode()) if given.get("filter") else None, []
+    asked, made = filter_in(given.get("filter")), []
     for table in tables:
         test = test_of(asked, table, session) if asked is not None else None
         made.append((table, [view for view in table.meeting(box) if (wanted is None or view.number in wanted) and (test is None or test(view))]))
     return made, wanted is None and asked is None
+
+
+def filter_in(said):
+    """The element of a filter, of which a parameter has the text; None if there is none. Each feature is tried by each part of it."""
+    found = (parsed(said.encode()) if said else None) if isinstance(said, str) else said
+    if found is not None and sum(local(part) not in OF_IDS for part in found.iter()) > MOST_PARTS:
+        raise invalid("filter", f"a filter has at most {MOST_PARTS:,} parts beside ids of features")
+    return found
 
 
 def told(counts):
@@ -142,25 +215,41 @@ def edits_told(numbers):
     return f", edit {numbers[0]:,}" if len(numbers) == 1 else f", edits {numbers[0]:,} to {numbers[-1]:,}"
 
 
-def version_of(given):
-    """The version of a reply. GetCapabilities names several that the client takes."""
-    asked = given.get("version", wfs_texts.V2.name)
-    return wfs_texts.chosen(given.get("acceptversions", asked) if given.get("request", "").lower() == CAPABILITIES else asked)
+def stored(request, given, tables):
+    """The reply that lists or describes the stored query."""
+    asked = [one.strip() for one in given.get("storedquery_id", "").split(",") if one.strip()]
+    wrong = [one for one in asked if one not in BY_ID_NAMES]
+    if wrong:
+        raise invalid("STOREDQUERY_ID", f"there is no stored query {wrong[0]}, but {BY_ID}")
+    return wfs_texts.stored_queries(BY_ID, tables) if request == LISTED else wfs_texts.described_queries(BY_ID)
+
+
+def values(name, found, fids, matched):
+    """The reply with the values of one property of features."""
+    if not name:
+        raise Invalid("MissingParameterValue", "valueReference", "it doesn't say of which property")
+    if name.startswith("@"):
+        if name != "@gml:id":
+            raise invalid("valueReference", f"no feature has {name}")
+        return wfs_texts.values(fids, matched)
+    for table in {table.name: table for table, _ in found}.values():
+        see_column(name_in(name), table, "valueReference")
+    return wfs_texts.values(wfs_texts.cells(found, name_in(name)), matched)
 
 
 def named_tables(given, tables):
     """The tables that a request names; all if it names none."""
-    names = [type_in(one) for one in re.split("[,()]", given.get("typenames", given.get("typename", ""))) if one.strip()]
+    names = list(dict.fromkeys(type_in(one) for one in re.split("[,()]", given.get("typenames", given.get("typename", ""))) if one.strip()))
     wrong = [name for name in names if name not in tables]
     if wrong:
-        raise Refused(f"the map has no layer {wrong[0]}")
+        raise invalid("typeNames", f"the map has no layer {wrong[0]}")
     return [tables[name] for name in names] if names else list(tables.values())
 
 
 def see_system(name):
     """Refuses coordinates of another system than the map's."""
     if name and not SYSTEM.search(name):
-        raise Refused(f"SRSNAME {name}: EPSG:3857 is needed")
+        raise invalid("srsName", f"SRSNAME {name}: EPSG:3857 is needed")
 
 
 def number_in(given, names, usual):

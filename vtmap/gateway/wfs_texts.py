@@ -8,9 +8,11 @@ from ..geometry.world import WORLD, degrees
 from ..markup import Frame, document, element
 from .tables import ID, SHAPE, text_of
 
-SPACE = "urn:vtserve"
+SPACE, TITLE = "urn:vtserve", "The feature of an id"
 OPERATIONS = ("GetCapabilities", "DescribeFeatureType", "GetFeature", "Transaction")
-TRUTHS = {"ImplementsBasicWFS": True, "ImplementsTransactionalWFS": True, "KVPEncoding": True, "ImplementsResultPaging": False}
+OF_V2 = ("GetPropertyValue", "ListStoredQueries", "DescribeStoredQueries")
+TRUTHS = {"ImplementsSimpleWFS": True, "ImplementsBasicWFS": True, "ImplementsTransactionalWFS": True, "ImplementsLockingWFS": False, "KVPEncoding": True,
+          "XMLEncoding": True, "SOAPEncoding": False, "ImplementsSorting": True, "ImplementsResultPaging": False, "ManageStoredQueries": False}
 FORMS = {"TEXT": "xsd:string", "INTEGER": "xsd:long", "BOOLEAN": "xsd:boolean"}
 SHAPES = {"points": ("PointPropertyType", "MultiPointPropertyType"), "lines": ("CurvePropertyType", "MultiCurvePropertyType"),
           "polygons": ("SurfacePropertyType", "MultiSurfacePropertyType")}
@@ -47,7 +49,7 @@ def capabilities(version, tables, address):
     each = [element("wfs:Operation", name) for name in ("Query", "Insert", "Update", "Delete")]
     types = [table_of(version, table) for table in tables]
     can = element("ogc:Filter_Capabilities", element("ogc:Spatial_Capabilities"), element("ogc:Scalar_Capabilities"))
-    named = [operation(version, name, address) for name in OPERATIONS]
+    named = [operation(version, name, address) for name in (*OPERATIONS, *(OF_V2 if version is V2 else ()))]
     if version is V2:
         operations, listed = element("ows:OperationsMetadata", *named, *constraints()), element("wfs:FeatureTypeList", *types)
     else:
@@ -57,7 +59,9 @@ def capabilities(version, tables, address):
 
 def operation(version, name, address):
     """How an operation is asked for."""
-    words = [parameter(version, "outputFormat", [version.format]), parameter(version, "resultType", ["results", "hits"])] if name == "GetFeature" else []
+    words = [parameter(version, "AcceptVersions", list(VERSIONS))] if name == "GetCapabilities" else []
+    words += [parameter(version, "outputFormat", [version.format])] if name in ("GetFeature", "DescribeFeatureType") else []
+    words += [parameter(version, "resultType", ["results", "hits"])] if name == "GetFeature" else []
     ways = element("ows:Get", **{"xlink:href": f"{address}?"}), element("ows:Post", **{"xlink:href": address})
     return element("ows:Operation", element("ows:DCP", element("ows:HTTP", *ways)), *words, name=name)
 
@@ -99,28 +103,52 @@ def schema(version, tables):
 
 # ---- features
 
-def features(version, found, fids, matched):
-    """Features: pairs of table and view, and their ids. `matched`: how many there are with those that aren't returned."""
-    now = time.strftime("%Y-%m-%dT%H:%M:%SZ", time.gmtime())
+def features(version, found, fids, matched, wanted=None):
+    """Features: pairs of table and view, and their ids. `matched`: how many there are with those that aren't returned. `wanted`: which columns of each
+    table are written, by its name; None for all."""
     counts = {"numberMatched": matched, "numberReturned": len(found)} if version is V2 else {"numberOfFeatures": len(found) or matched}
-    whole = "wfs:FeatureCollection", {**spaces(version), "timeStamp": now, **counts}
-    rows = {table.name: Rows(version, table) for table in {table.name: table for table, _ in found}.values()}
+    whole = "wfs:FeatureCollection", {**spaces(version), "timeStamp": now(), **counts}
+    rows = {table.name: Rows(version, table, (wanted or {}).get(table.name)) for table in {table.name: table for table, _ in found}.values()}
     members = [rows[table.name].member(view, fid) for (table, view), fid in zip(found, fids)]
     return Frame(whole, *(["gml:featureMembers"] if members and version is V1 else [])).document(members)
 
 
-class Rows:
-    """How the features of a table are written: as members of a collection of a version."""
+def now():
+    """The time, as replies have it."""
+    return time.strftime("%Y-%m-%dT%H:%M:%SZ", time.gmtime())
 
-    def __init__(self, version, table):
-        self.version, self.table, self.key = version, table, (version.name, table.form)
+
+def feature(version, table, view, fid):
+    """One feature, without a collection around it."""
+    return document(element(f"v:{table.name}", *Rows(version, table).columns(view), **{"gml:id": fid}, **spaces(version)))
+
+
+def cells(found, name):
+    """The values of a column of features, each as an element; of those that have one."""
+    made = [Rows(V2, table, frozenset([name])).columns(view) for table, view in found]
+    return [cell for columns in made for cell in columns]
+
+
+def values(parts, matched):
+    """Values of a property: elements, or texts."""
+    members = [element("wfs:member", part) for part in parts]
+    return Frame(("wfs:ValueCollection", {**spaces(V2), "timeStamp": now(), "numberMatched": matched, "numberReturned": len(parts)})).document(members)
+
+
+class Rows:
+    """How the features of a table are written: as members of a collection of a version. `wanted`: which columns, None for all."""
+
+    def __init__(self, version, table, wanted=None):
+        self.version, self.table, self.wanted, self.key = version, table, wanted, (version.name, table.form)
         self.shape, self.number = Frame(f"v:{SHAPE}"), Frame(f"v:{ID}")
-        self.tags = [(tag, form, Frame(f"v:{name}")) for name, (tag, form) in table.columns.items()]
-        self.zooms = [(zoom, Frame(f"v:{zoom}")) for zoom in ZOOMS]
+        self.tags = [(tag, form, Frame(f"v:{name}")) for name, (tag, form) in table.columns.items() if self.has(name)]
+        self.zooms = [(zoom, Frame(f"v:{zoom}")) for zoom in ZOOMS if self.has(zoom)]
         self.name, self.around = f"v:{table.name}", Frame(*(["wfs:member"] if version is V2 else []))
 
     def member(self, view, fid):
         """A feature. It is written once for all who have it under the same id."""
+        if self.wanted is not None:
+            return self.around.of(element(self.name, *self.columns(view), **{"gml:id": fid}))
         # Another request may keep its own way of writing it meanwhile.
         last, written = view.written
         if last != (self.key, fid):
@@ -131,19 +159,46 @@ class Rows:
     def columns(self, view):
         """The columns of a feature."""
         tags = view.feature["tags"]
-        made = [self.shape.of(gml_of(view.feature["geometry"], self.table.is_several, self.version.system)), self.number.of(view.number)]
+        made = [self.shape.of(gml_of(view.feature["geometry"], self.table.is_several, self.version.system))] if self.has(SHAPE) else []
+        made += [self.number.of(view.number)] if self.has(ID) else []
         for tag, form, frame in self.tags:
             text = text_of(tags.get(tag), form)
             if text is not None:
                 made.append(frame.of(text))
         return made + [frame.of(view.feature[zoom]) for zoom, frame in self.zooms]
 
+    def has(self, name):
+        """Whether a column is written."""
+        return self.wanted is None or name in self.wanted
+
+
+# ---- stored queries
+
+def stored_queries(name, tables):
+    """The list of the one stored query, and what it may return."""
+    types = [element("wfs:ReturnFeatureType", f"v:{table.name}") for table in tables] or [element("wfs:ReturnFeatureType")]
+    query = element("wfs:StoredQuery", element("wfs:Title", TITLE), *types, id=name)
+    return document(element("wfs:ListStoredQueriesResponse", query, **spaces(V2)))
+
+
+def described_queries(name):
+    """What the one stored query asks for."""
+    text = element("wfs:QueryExpressionText", returnFeatureTypes="", language="urn:ogc:def:queryLanguage:OGC-WFS::WFSQueryExpression", isPrivate="true")
+    query = element("wfs:StoredQueryDescription", element("wfs:Title", TITLE), element("wfs:Parameter", name="ID", type="xsd:string"), text, id=name)
+    return document(element("wfs:DescribeStoredQueriesResponse", query, **spaces(V2), **{"xmlns:xsd": "http://www.w3.org/2001/XMLSchema"}))
+
 
 # ---- reports
 
-def report(version, code, text):
+def refused(version, code, fault):
+    """Why a request isn't answered. A fault may know its code, and the parameter that it is about."""
+    return report(version, getattr(fault, "code", code), str(fault), getattr(fault, "locator", None))
+
+
+def report(version, code, text, locator=None):
     """Why something isn't done."""
-    told = element("ows:Exception", element("ows:ExceptionText", text), exceptionCode=code)
+    about = {"locator": locator} if locator else {}
+    told = element("ows:Exception", element("ows:ExceptionText", text), exceptionCode=code, **about)
     return document(element("ows:ExceptionReport", told, version=version.name, **{"xmlns:ows": version.ows}))
 
 

@@ -1,0 +1,72 @@
+"""Features as files to download: CSV for tables, and GeoPackage for a desktop GIS. Needs no package."""
+import csv
+import io
+import os
+import tempfile
+import threading
+
+from ..files import geopackage
+from ..files.checkout_file import ZOOMS, cell_of
+from ..geometry.wholes import right_handed
+
+CSV, GEOPACKAGE = "text/csv; charset=utf-8; header=present", "application/geopackage+sqlite3"
+WKT = {"Point": "POINT", "LineString": "LINESTRING", "Polygon": "POLYGON", "MultiPoint": "MULTIPOINT", "MultiLineString": "MULTILINESTRING",
+       "MultiPolygon": "MULTIPOLYGON"}
+# One file is made at a time: it may have all features of the map.
+TURN = threading.Lock()
+
+
+def csv_of(table, views, system):
+    """A table as CSV: ids, places, tags and zooms. Excel takes it for UTF-8 by its first letter."""
+    is_point = table.kind == "points" and not table.is_several
+    names = (["lon", "lat"] if system.digits == 8 else ["x", "y"]) if is_point else ["wkt"]
+    with TURN:
+        file = io.StringIO()
+        writer = csv.writer(file)
+        writer.writerow(["id", *names, *(tag for tag, _ in table.columns.values()), *ZOOMS])
+        for view in views:
+            geometry = system.geometry(right_handed(view.feature)["geometry"])
+            place = in_gis_order(geometry["coordinates"], system) if is_point else [wkt(geometry, system)]
+            tags = view.feature["tags"]
+            writer.writerow([view.number, *place, *(text_of(tags.get(tag)) for tag, _ in table.columns.values()), *(view.feature[zoom] for zoom in ZOOMS)])
+        return ("\ufeff" + file.getvalue()).encode(errors="replace")
+
+
+def text_of(value):
+    """The value of a tag in CSV."""
+    return ("true" if value else "false") if isinstance(value, bool) else value
+
+
+def in_gis_order(place, system):
+    """A place, east before north."""
+    return place[::-1] if system.is_swapped else place
+
+
+def wkt(geometry, system):
+    """A geometry of GeoJSON as text, east before north."""
+    return f"{WKT[geometry['type']]} {wkt_of(geometry['coordinates'], system)}"
+
+
+def wkt_of(parts, system):
+    """The text of coordinates."""
+    if not isinstance(parts[0], list):
+        return f"({' '.join(map(str, in_gis_order(parts, system)))})"
+    inner = [wkt_of(part, system) for part in parts]
+    return f"({', '.join(part[1:-1] if not isinstance(parts[0][0], list) else part for part in inner)})"
+
+
+def geopackage_of(table, views):
+    """A table as a GeoPackage, in Web Mercator."""
+    with TURN, tempfile.TemporaryDirectory() as folder:
+        path = os.path.join(folder, "map.gpkg")
+        file = geopackage.create(path)
+        taken = {"fid", "geom", "rowid", "oid", "_rowid_", *ZOOMS}
+        columns = [(geopackage.free_name(tag, taken), tag, form) for tag, form in table.columns.values()]
+        rows = ((view.number, view.feature["geometry"], [*(cell_of(view.feature["tags"].get(tag), form) for _, tag, form in columns),
+                                                        *(view.feature[zoom] for zoom in ZOOMS)]) for view in views)
+        with file:
+            geopackage.add_table(file, table.name.replace(".", "_"), table.kind, table.is_several,
+                                 [*((name, form) for name, _, form in columns), *((zoom, "INTEGER") for zoom in ZOOMS)], rows)
+        file.close()
+        with open(path, "rb") as made:
+            return made.read()
