@@ -3,15 +3,8 @@
 //!
 //! A line `part NAME` begins the part `journal`, `service` or `connections`, whose commands follow, and prints nothing. Each other line prints
 //! its answer. Empty lines and lines that begin with `#` are echoed. What is no command of its part, or doesn't fit, is printed after `?`.
-//! The head of each part's module lists its commands.
+//! The head of each part's crate lists its commands: `journal_runs`, `tile_service_runs`, `connection_runs`.
 #![tactic(auto)]
-
-mod commands;
-mod connections;
-mod journal;
-mod narrow;
-mod sectors;
-mod service;
 
 use script_bytes::Answer;
 use std::alloc::{AllocError, Global};
@@ -21,9 +14,9 @@ use std::{io, mem};
 enum Part {
     /// No part was begun, or one that isn't known.
     Unknown,
-    Journal(journal::Trial),
-    Service(service::Trial),
-    Connections(connections::Trial),
+    Journal(journal_runs::Trial),
+    Service(tile_service_runs::Trial),
+    Connections(connection_runs::Trial),
 }
 
 impl Part {
@@ -41,9 +34,9 @@ impl Part {
 /// The part of this name in its first state. `Unknown` if there is no such part.
 fn part_of(alloc: Global, name: &str) -> Result<Part, AllocError> {
     match name {
-        "journal" => Ok(Part::Journal(journal::Trial::new(alloc)?)),
-        "service" => Ok(Part::Service(service::Trial::new(alloc)?)),
-        "connections" => Ok(Part::Connections(connections::Trial::new(alloc)?)),
+        "journal" => Ok(Part::Journal(journal_runs::Trial::new(alloc)?)),
+        "service" => Ok(Part::Service(tile_service_runs::Trial::new(alloc)?)),
+        "connections" => Ok(Part::Connections(connection_runs::Trial::new(alloc)?)),
         _ => Ok(Part::Unknown),
     }
 }
@@ -63,9 +56,9 @@ fn begin(rt: &HostRuntime, part: &mut Part, name: &str) -> io::Result<()> {
 fn answer_to(alloc: Global, part: &mut Part, text: &str, answer: &mut Answer) {
     match part {
         Part::Unknown => answer.reject(),
-        Part::Journal(trial) => journal::answer_to(alloc, trial, text, answer),
-        Part::Service(trial) => service::answer_to(alloc, trial, text, answer),
-        Part::Connections(trial) => connections::answer_to(alloc, trial, text, answer),
+        Part::Journal(trial) => journal_runs::answer_to(alloc, trial, text, answer),
+        Part::Service(trial) => tile_service_runs::answer_to(alloc, trial, text, answer),
+        Part::Connections(trial) => connection_runs::answer_to(alloc, trial, text, answer),
     }
 }
 

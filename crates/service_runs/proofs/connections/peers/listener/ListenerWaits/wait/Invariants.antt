@@ -1,6 +1,0 @@
-use Rattle.http_listen.specs.Places.{peer_at}
-use Rattle.http_listen.specs.Stays.{AllStand}
-use Rattle.service_runs.proofs.connections.peers.listener.ListenerWaits.wait.Given as goal
-
-abbrev pub invariant-waits : goal.invariant-waits
-invariant-waits l = AllStand (peer_at l.fn.places) (peer_at l.places)
