@@ -1,6 +1,6 @@
 #!/usr/bin/env python3
-"""Checks the names in docs/PROMISES.md and docs/TESTED.md against the crates: functions and the clauses beside them,
-lemmas, tests, lines of scripts and must-fail edits.
+"""Checks the names in docs/PROMISES.md, docs/TESTED.md and the crates' own pages against the crates: functions and the
+clauses beside them, lemmas, tests, lines of scripts and must-fail edits.
 
     python3 tests/promises.py
 
@@ -10,7 +10,11 @@ tables that its tests run, `.._runs` (lines `word`, ..) lines of its script that
 `name`, lines `word`, ..) and part `name` of `.._runs` (lines `word`, ..) those of that part, and `.._runs` (blocks
 `name`, ..) functions of the models that write such lines. The table of wrong bodies in TESTED.md has to name just the
 edits in crates/*/must-fail, and the section Trusted in PROMISES.md just the ported crates on which a crate of
-crates.txt stands. It prints what it doesn't find, and ends with 1 then.
+crates.txt stands.
+
+In a crate's own page (crates/NAME/README.md) `function` (`clause`, ..) is a function of this crate, `NAME.rt` a file of
+its src/, `specs/NAME.antt` one of its definitions, and each other name is a word of some crate's src/ or specs/. Blocks
+of code aren't looked at. It prints what it doesn't find, and ends with 1 then.
 """
 import functools
 import re
@@ -130,6 +134,30 @@ def missing_in(text: str) -> Iterator[str]:
         yield from (f"block {block} of {crate}" for block in listed(blocks) if block not in blocks_of(crate))
 
 
+@functools.cache
+def words_of_crates() -> set[str]:
+    """The words of all sources and definitions, and the names of the crates."""
+    paths = [*CRATES.glob("*/src/**/*.rt"), *CRATES.glob("*/specs/**/*.antt")]
+    names = {path.name for path in CRATES.iterdir()}
+    return names.union(*(re.findall(r"\w+", path.read_text()) for path in paths))
+
+
+def missing_in_crate(page: Path) -> Iterator[str]:
+    """What a crate's own page names and the crates don't have."""
+    crate = page.parent.name
+    text = re.sub(r"^```.*?^```", "", page.read_text(), flags=re.M | re.S)
+    for name, clauses in re.findall(r"`((?:\w+::)*\w+)` \(((?:`\w+`(?:, )?)+)\)", text):
+        known = functions_of(crate).get(name.split("::")[-1])
+        if known is not None:
+            yield from (f"clause {clause} of {crate}::{name}" for clause in listed(clauses) if clause not in known)
+    for name in sorted(set(re.findall(r"`([\w:./]+)(?:<\w>)?`", text))):
+        if re.fullmatch(r"\w+\.rt|specs/\w+\.antt", name):
+            if not (page.parent / ("" if "/" in name else "src") / name).exists():
+                yield f"file {name} of {crate}"
+        elif re.fullmatch(r"(?:\w+::)*[A-Za-z_]\w*", name):
+            yield from (f"name {name} ({crate})" for part in name.split("::") if part not in words_of_crates())
+
+
 def ported() -> set[str]:
     """The crates of the kit that crates.txt names."""
     text = (ROOT / "crates.txt").read_text()
@@ -160,10 +188,11 @@ def untried(text: str) -> Iterator[str]:
 
 def main() -> None:
     promises, tested = ((ROOT / "docs" / name).read_text() for name in ("PROMISES.md", "TESTED.md"))
-    missing = sorted({*missing_in(promises), *missing_in(tested), *untrusted(promises), *untried(tested)})
+    of_crates = {name for page in sorted(CRATES.glob("*/README.md")) for name in missing_in_crate(page)}
+    missing = sorted({*missing_in(promises), *missing_in(tested), *untrusted(promises), *untried(tested), *of_crates})
     for name in missing:
         print(name)
-    pages = "docs/PROMISES.md and docs/TESTED.md"
+    pages = "docs/PROMISES.md, docs/TESTED.md and the crates' pages"
     wrong = f"{len(missing)} names of {pages} aren't in the crates"
     print(wrong if missing else f"each name of {pages} is in the crates")
     sys.exit(1 if missing else 0)
