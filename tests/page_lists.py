@@ -4,6 +4,7 @@
   names: the libraries of the kit, and those built in this clone.
 - bench/README.md names each folder of bench/, METHOD.md each of its scripts and tools, model/README.md each model.
 - PROOFS.md counts functions and proofs within a tenth, and docs/pictures/crates.svg is what tools/floors.py draws.
+- The names of types that ARCHITECTURE.md and WHERE.md list are those of the crates (crate_names.py).
 - The newest version of CHANGELOG.md is vtmap's, its versions have dates, and its lines at most forty words.
 - Each page has at most the words of LIMITS. A word has a letter or a digit.
 - Each link of a page leads to a file, and to a heading where it names one.
@@ -14,6 +15,8 @@ import subprocess
 import sys
 from collections.abc import Iterator
 from pathlib import Path
+
+import crate_names
 
 ROOT = Path(__file__).resolve().parents[1]
 sys.path.append(str(ROOT / "tools"))
@@ -170,6 +173,8 @@ CHECKS = {
     "trusted crates": trusted,
     "folders, scripts, tools and models": listed,
     "counts and the drawing": counted,
+    "names of types that stand twice": crate_names.twice,
+    "names that change with their crate": crate_names.renamed,
     "words and lines": long,
     "links": broken,
 }

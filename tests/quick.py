@@ -56,6 +56,7 @@ def page_of(name):
 
 # How scripts that aren't vtmap's are looked at: they run on the gate's Python alone.
 TYPED = ["--python-version", "3.11", "--disallow-untyped-defs", "--cache-dir", os.devnull]
+SCRIPTS = ["tests/page_lists.py", "tests/crate_names.py", "tests/promises.py"]
 
 # The longest ones first, so that no processor waits at the end.
 PARTS = [
@@ -74,7 +75,7 @@ PARTS = [
     page_of("docs/HTTP.md"),
     page_of("docs/COMMANDS.md"),
     page_of("README.md"),
-    Part("types-of-scripts", ["mypy", *TYPED, "tests/page_lists.py", "tests/promises.py", "tools/floors.py"], ("mypy",)),
+    Part("types-of-scripts", ["mypy", *TYPED, *SCRIPTS, "tools/floors.py"], ("mypy",)),
     Part("types", ["mypy", "--config-file", "tests/mypy.ini", "--cache-dir", os.devnull, "vtmap"], ("mypy",)),
     client("routes"),
     client("tags"),
