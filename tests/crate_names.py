@@ -1,9 +1,12 @@
-"""The names of the crates' types that the pages list: part of `python3 tests/documents.py --lists`.
+"""What the pages say of the crates: part of `python3 tests/documents.py --lists`.
 
 - ARCHITECTURE.md's table of names that stand for two types or more names just those that do, each with its crates. A
   type is a struct, an enum, a trait or an alias of a module, or a record or a data type of specs/ without parameters.
   Crates of scripts and tests don't count.
 - WHERE.md's names that change with their crate are names of that crate still.
+- ARCHITECTURE.md has a row for each crate, the files that it would have read are there, and CONTRIBUTING.md names no
+  other crate where it says what they cost.
+- Each size in STEPS.md's table is that of its constant.
 """
 import re
 from collections import defaultdict
@@ -70,3 +73,39 @@ def renamed() -> Iterator[str]:
             for name in re.findall(r"`(\w+)`", entry.partition(":")[0]):
                 if name not in known:
                     yield f"{page}: {crates} has no {name} that could be renamed"
+
+
+def explained() -> Iterator[str]:
+    known = {path.name for path in CRATES.iterdir() if path.is_dir()}
+    said = {name for row in rows("docs/ARCHITECTURE.md", "| Layer | Crate | Does |") for name in names(row[1])}
+    for name in sorted(known ^ said):
+        yield f"docs/ARCHITECTURE.md: its table of crates and crates/ don't agree about {name}"
+    for row in rows("docs/CONTRIBUTING.md", "| Crate | MB of proof | Proof, tests and programs | Edits |"):
+        if re.fullmatch(r"`\w+`", row[0]) and not names(row[0]) <= known:
+            yield f"docs/CONTRIBUTING.md: {row[0]} is no crate"
+    text = (ROOT / "docs" / "ARCHITECTURE.md").read_text(encoding="utf-8")
+    for name in re.findall(r"^\d+\. `(crates/[\w/.]+)`", text, re.M):
+        if not (ROOT / name).is_file():
+            yield f"docs/ARCHITECTURE.md: no file {name}, which is to be read"
+
+
+def names(cell: str) -> set[str]:
+    return set(re.findall(r"`(\w+)`", cell))
+
+
+def spelled(size: int) -> set[str]:
+    """How a page may write a size."""
+    units = {"KiB": 1 << 10, "MiB": 1 << 20}
+    return {f"{size:,}", *(f"{size // unit} {name}" for name, unit in units.items() if size % unit == 0)}
+
+
+def steps() -> Iterator[str]:
+    page, text = "docs/STEPS.md", ""
+    for work, step, constants, _ in rows("docs/STEPS.md", "| Work | A step | Constant, in | Why this size |"):
+        files = [CRATES / name for name in re.findall(r"`(\w+/src/\w+\.rt)`", constants)]
+        folders = {path for file in files for path in file.parent.glob("*.rt") if f"{path.name}`" in constants}
+        text = "".join(path.read_text(encoding="utf-8") for path in sorted(folders)) or text
+        for name in re.findall(r"`([A-Z_]+)`", constants):
+            found = re.search(rf"\bconst {name}: \w+ = ([\d_]+);", text)
+            if not found or not any(size in f"{work} {step}" for size in spelled(int(found.group(1)))):
+                yield f"{page}: {name} isn't the size that its row says"

@@ -4,10 +4,13 @@
   names: the libraries of the kit, and those built in this clone.
 - bench/README.md names each folder of bench/, METHOD.md each of its scripts and tools, model/README.md each model.
 - PROOFS.md counts functions and proofs within a tenth, and docs/pictures/crates.svg is what tools/floors.py draws.
-- The names of types that ARCHITECTURE.md and WHERE.md list are those of the crates (crate_names.py).
+- What ARCHITECTURE.md, WHERE.md, STEPS.md and CONTRIBUTING.md list of crates, types and constants is so
+  (crate_names.py).
 - The newest version of CHANGELOG.md is vtmap's, its versions have dates, and its lines at most forty words.
-- Each page has at most the words of LIMITS. A word has a letter or a digit.
+- Each page has at most the words of LIMITS, as `wc -w` counts them, and a cell of PROMISES.md at most sixty.
 - Each link of a page leads to a file, and to a heading where it names one.
+- What a page for users calls proved has a link to the rows of PROMISES.md that say it, or to README's section on it,
+  whose functions PROMISES.md names.
 """
 import re
 import shutil
@@ -26,7 +29,7 @@ import floors  # noqa: E402
 LIMITS = {
     "README.md": 1_100,
     "CHANGELOG.md": 3_000,
-    "bench/README.md": 4_000,
+    "bench/README.md": 4_500,
     "bench/METHOD.md": 3_000,
     "docs/ARCHITECTURE.md": 4_000,
     "docs/CONTRIBUTING.md": 4_500,
@@ -36,6 +39,9 @@ LIMITS = {
     "docs/TESTED.md": 4_000,
 }
 MOST_IN_LINE = 40
+MOST_IN_CELL = 60
+# Pages whose readers don't read proofs.
+FOR_USERS = ["README.md", "CHANGELOG.md", "docs/HTTP.md", "docs/DEPLOYING.md", "docs/COMMANDS.md", "docs/OFFICE.md"]
 # What the C library and std are made of: the section Trusted says std.
 OF_STD = {"core", "io", "os", "std", "std_alloc", "std_heap", "std_io"}
 
@@ -45,7 +51,7 @@ def read(name: str) -> str:
 
 
 def words(text: str) -> int:
-    return sum(any(letter.isalnum() for letter in word) for word in text.split())
+    return len(text.split())
 
 
 def names(text: str) -> set[str]:
@@ -136,14 +142,17 @@ def long() -> Iterator[str]:
         count = words(read(page))
         if count > most:
             yield f"{page} has {count} words, of {most}"
+    for number, line in enumerate(read("docs/PROMISES.md").splitlines(), 1):
+        if line.startswith("|") and max(words(cell) for cell in line.split("|")) > MOST_IN_CELL:
+            yield f"docs/PROMISES.md:{number}: a cell of more than {MOST_IN_CELL} words"
     newest = re.search(r"^## ([\d.]+)", read("CHANGELOG.md"), re.M)
     if not newest or f'VERSION = "{newest.group(1)}"' not in read("vtmap/__init__.py"):
         yield "CHANGELOG.md: its newest version isn't that of vtmap"
     for number, line in enumerate(read("CHANGELOG.md").splitlines(), 1):
         if line.startswith("## ") and not re.search(r"\b20\d\d\b", line):
             yield f"CHANGELOG.md:{number}: a version without a date"
-        if line.lstrip().startswith("- ") and words(line) > MOST_IN_LINE:
-            yield f"CHANGELOG.md:{number}: a line of {words(line)} words, of {MOST_IN_LINE}"
+        if line.lstrip().startswith("- ") and words(line) - 1 > MOST_IN_LINE:
+            yield f"CHANGELOG.md:{number}: a line of {words(line) - 1} words, of {MOST_IN_LINE}"
 
 
 def without_blocks(page: Path) -> str:
@@ -169,14 +178,34 @@ def broken() -> Iterator[str]:
                 yield f"{page.relative_to(ROOT)}: no heading #{anchor} in {path.name}"
 
 
+# ---- what is called proved
+
+
+def claimed() -> Iterator[str]:
+    """Where a page for users says that something is proved, and not of which rows of PROMISES.md it is said."""
+    for name in FOR_USERS:
+        for line in without_blocks(ROOT / name).splitlines():
+            claims = re.search(r"\b[Pp]roved\b(?! (?:program|with that kit))", line) and not line.startswith("#")
+            if claims and not re.search(r"PROMISES\.md#|\(#what-is-proved\)", line):
+                yield f"{name}: no rows of PROMISES.md beside what is called proved: {line[:60]}.."
+    section = re.search(r"^## What is proved\n(.*?)^## ", read("README.md"), re.M | re.S)
+    named = {name.split("::")[-1] for name in re.findall(r"`([\w:]+)`", section.group(1) if section else "")}
+    promised = {name.split("::")[-1] for name in re.findall(r"`((?:\w+::)+\w+)`", read("docs/PROMISES.md"))}
+    for name in sorted(named - promised - {"vtmap", "vtserve"}):
+        yield f"README.md: {name} is proved by no row of PROMISES.md"
+
+
 CHECKS = {
     "trusted crates": trusted,
     "folders, scripts, tools and models": listed,
     "counts and the drawing": counted,
+    "crates": crate_names.explained,
+    "sizes of steps": crate_names.steps,
     "names of types that stand twice": crate_names.twice,
     "names that change with their crate": crate_names.renamed,
     "words and lines": long,
     "links": broken,
+    "what is called proved": claimed,
 }
 
 
