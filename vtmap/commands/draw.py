@@ -1,8 +1,7 @@
 """`vtmap draw`: a client that reads tiles by HTTP, decodes them by itself and draws them. Needs Pillow."""
-import struct
-
 from ..client.client import Client, word
 from ..faults import Stopped
+from ..files.vector_tile import BROKEN, decoded
 from ..geometry.world import shares
 from ..interpreters import need
 
@@ -59,7 +58,7 @@ def tiles_of(client, zoom, columns, rows):
 def work(words):
     """Draws, in an interpreter that has Pillow."""
     need("PIL", words.line)
-    from .draw_picture import STYLES, Picture, decoded, style_of
+    from .draw_picture import STYLES, Picture, style_of
     (longitude, latitude), (width, height) = words.centre, words.size
     pixels, (east, south) = 256 * 2 ** words.zoom, shares(longitude, latitude)
     left, top = round(east * pixels) - width // 2, round(south * pixels) - height // 2
@@ -67,7 +66,7 @@ def work(words):
     client = Client(words.url)
     try:
         tiles = {place: decoded(content) for place, content in tiles_of(client, words.zoom, columns, rows).items()}
-    except (LookupError, ValueError, struct.error) as fault:
+    except BROKEN as fault:
         raise Stopped(f"what answers at {client.address} sends no tiles: is --url right?") from fault
     names = [*STYLES, *sorted({name for layers in tiles.values() for name in layers} - set(STYLES))]
     picture = Picture(words.zoom, left, top, words.size)

@@ -1,9 +1,6 @@
 """What `vtmap draw` draws: tiles as they are decoded, by styles of its own. Needs Pillow."""
-import struct
-
 from PIL import Image, ImageDraw, ImageFont
 
-from ..files.protobuf import fields, varint
 from ..geometry.wholes import OUTLINE
 
 SHARPER = 4
@@ -17,90 +14,6 @@ STYLES = {
     "place": {"point": "#b03a2e"},
 }
 OTHER = {"fill": "#dddddd", "edge": "#888888", "line": {None: ("#555555", 2)}, "point": "#333333"}
-
-
-def packed(data):
-    """The numbers of a packed field."""
-    numbers, at = [], 0
-    while at < len(data):
-        number, at = varint(data, at)
-        numbers.append(number)
-    return numbers
-
-
-def signed(number):
-    """A number from its zigzag form."""
-    return (number >> 1) ^ -(number & 1)
-
-
-def value_of(data):
-    """The value of a tag."""
-    for number, value in fields(data):
-        if number == 1:
-            return value.decode()
-        if number == 2:
-            return struct.unpack("<f", value)[0]
-        if number == 3:
-            return struct.unpack("<d", value)[0]
-        if number == 6:
-            return signed(value)
-        if number == 7:
-            return value != 0
-        return value
-    return None
-
-
-def paths(commands):
-    """The lists of points of a geometry: MoveTo begins one (or gives single points), LineTo goes on, ClosePath ends a ring."""
-    lists, at, x, y = [], 0, 0, 0
-    while at < len(commands):
-        command, count = commands[at] & 7, commands[at] >> 3
-        at += 1
-        if command == 7:
-            continue
-        for _ in range(count):
-            x, y = x + signed(commands[at]), y + signed(commands[at + 1])
-            at += 2
-            if command == 1:
-                lists.append([])
-            lists[-1].append((x, y))
-    return lists
-
-
-def decoded(data):
-    """The layers of a tile: the name of each, and of its features the id, the type (1 points, 2 lines, 3 polygons), the lists and the tags."""
-    layers = {}
-    for number, layer in fields(data):
-        if number != 3:
-            continue
-        name, rows, keys, values = "", [], [], []
-        for part, value in fields(layer):
-            if part == 1:
-                name = value.decode()
-            elif part == 2:
-                rows.append(value)
-            elif part == 3:
-                keys.append(value.decode())
-            elif part == 4:
-                values.append(value_of(value))
-        layers[name] = [feature_of(row, keys, values) for row in rows]
-    return layers
-
-
-def feature_of(data, keys, values):
-    """A feature of a layer."""
-    number, kind, lists, tags = None, 0, [], {}
-    for part, value in fields(data):
-        if part == 1:
-            number = value
-        elif part == 2:
-            numbers = packed(value)
-            tags = {keys[key]: values[at] for key, at in zip(numbers[::2], numbers[1::2])}
-        elif part == 3:
-            kind = value
-        elif part == 4:
-            lists = paths(packed(value))
-    return number, kind, lists, tags
 
 
 def style_of(name):
