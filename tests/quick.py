@@ -71,6 +71,7 @@ PARTS = [
     page_of("docs/OFFICE.md"),
     client("ogc"),
     client("standards"),
+    client("wmts"),
     client("admin"),
     page_of("docs/HTTP.md"),
     page_of("docs/COMMANDS.md"),

@@ -87,7 +87,7 @@ Maintainer: $maintainer
 Installed-Size: $size
 Depends: libc6 (>= ${libc#GLIBC_}), adduser, python3 (>= 3.11)
 Recommends: python3-gdal
-Suggests: nginx-light, logrotate, qgis
+Suggests: nginx-light, logrotate, python3-cairo, qgis
 Section: science
 Priority: optional
 Description: vector tile server whose map is edited over HTTP

@@ -15,7 +15,7 @@ import sys
 
 DOCS = os.path.join(os.path.dirname(os.path.abspath(__file__)), "..", "docs")
 TIMERS = ("vtserve-publish", "vtserve-watch", "vtserve-backup")
-UNITS = ("vtserve", *TIMERS, "vtserve-log", "vtserve-standby", "vtserve-wfs")
+UNITS = ("vtserve", *TIMERS, "vtserve-log", "vtserve-standby", "vtserve-wfs", "vtserve-wmts")
 # The template that isn't made of the unit of one map: an instance is a port.
 OTHER = "vtserve-replica@.service"
 WORDS = "EnvironmentFile=/etc/vtserve/maps/%i\n"
@@ -30,6 +30,7 @@ OWN = (
     (r"http://127\.0\.0\.1:8090", "http://127.0.0.1:${GATEWAY}"),
     (r"http://([\w.]+):8000", r"http://\1:8000/%i"),
     (r"vtmap wfs ", "vtmap wfs --port ${GATEWAY} "),
+    (r"vtmap wmts (?=--url)", "vtmap wmts --port ${PICTURES} --title %i --bounds=${BOUNDS} "),
     (r"(--metrics \S+)", r"\1 --map %i"),
     # Not all maps at once, and each at the same time each day.
     (r"(OnCalendar=hourly\n)", r"\1RandomizedDelaySec=50min\nFixedRandomDelay=true\n"),
@@ -37,7 +38,7 @@ OWN = (
 )
 # The other units that a unit, or its comments, name.
 NAMES = (
-    (r"\b(vtserve(?:-(?:publish|watch|backup|log|standby|wfs))?)\.(service|timer)", r"\1@.\2"),
+    (r"\b(vtserve(?:-(?:publish|watch|backup|log|standby|wfs|wmts))?)\.(service|timer)", r"\1@.\2"),
     (r"(?m)^(After|Before|Wants|BindsTo|PartOf)=(.*)$", lambda found: found[0].replace("@.", "@%i.")),
     (r"(?m)^(Description=.*)$", r"\1: %i"),
 )

@@ -10,26 +10,26 @@ import time
 ASKED = "/wfs?SERVICE=WFS&REQUEST=GetCapabilities"
 
 
-def tell(port):
+def tell(port, asked=ASKED):
     """Begins to ask this process by its port, if systemd waits to be told. It asks three times in the time after which systemd gives it up."""
     name, length = os.environ.get("NOTIFY_SOCKET"), os.environ.get("WATCHDOG_USEC", "")
     if name and length.isdecimal():
-        threading.Thread(target=keep_telling, args=(name, int(length) / 3e6, port), daemon=True).start()
+        threading.Thread(target=keep_telling, args=(name, int(length) / 3e6, port, asked), daemon=True).start()
 
 
-def keep_telling(name, seconds, port):
+def keep_telling(name, seconds, port, asked):
     """Asks, and tells of each reply."""
     while True:
-        if answers(port, seconds):
+        if answers(port, seconds, asked):
             notify(name, b"WATCHDOG=1")
         time.sleep(seconds)
 
 
-def answers(port, seconds):
+def answers(port, seconds, asked):
     """Whether a reply comes in time, whatever it says."""
     connection = http.client.HTTPConnection("127.0.0.1", port, timeout=seconds)
     try:
-        connection.request("GET", ASKED)
+        connection.request("GET", asked)
         connection.getresponse().read()
         return True
     except (OSError, http.client.HTTPException):

@@ -13,7 +13,7 @@ from .systems import become, is_windows
 
 # Set for the interpreter that was found, so that it looks for no other one.
 FOUND = "VTMAP_INTERPRETER"
-PACKAGES = {"osgeo": ("GDAL's Python module", "python3-gdal"), "PIL": ("Pillow", "python3-pil")}
+PACKAGES = {"osgeo": ("GDAL's Python module", "python3-gdal"), "PIL": ("Pillow", "python3-pil"), "cairo": ("pycairo", "python3-cairo")}
 
 
 def has(package: str) -> bool:

@@ -41,6 +41,7 @@ from page_files import page_files
 from page_hands import page_hands
 from page_tools import page_tools
 from pages import page
+from pictures import wmts
 from refusals import refused_features, refused_requests
 from replicas import replicas
 from round_trips import round_trips
@@ -106,6 +107,7 @@ def main():
         "wfs-qgis": wfs_qgis,
         "schema": schema,
         "ogc": ogc,
+        "wmts": wmts,
         "standards": standards,
         "operation": operation,
         "admin": admin,

@@ -14,13 +14,14 @@ import subprocess
 import sys
 import time
 
+from pictures import Drawer, has_cairo
 from stand import HERE, PROGRAM, TILE, TOP, VTMAP, Nginx, Server, curl, feature, field, free_port, status_of
 
 TIMED = ("publish", "watch", "backup")
 STARTED = "enable --now vtserve@{0}.service" + "".join(f" vtserve-{name}@{{0}}.timer" for name in TIMED)
 ONCE = "start --no-block vtserve-publish@north.service vtserve-backup@north.service"
 STOPPED = "disable --now" + "".join(f" vtserve-{name}@{{0}}.timer" for name in TIMED) + "".join(
-    f" vtserve{name}@{{0}}.service" for name in ("-wfs", "-log", "-standby", ""))
+    f" vtserve{name}@{{0}}.service" for name in ("-wfs", "-wmts", "-log", "-standby", ""))
 
 
 class Here:
@@ -113,7 +114,7 @@ def templates(cases):
     units = sorted(os.path.join(TOP, "docs", name) for name in os.listdir(os.path.join(TOP, "docs")) if "@." in name)
     child = subprocess.run(["systemd-analyze", "verify", *units], capture_output=True, text=True)
     faults = [line for line in child.stderr.splitlines() if "is not executable: No such file" not in line]
-    cases.show("maps: systemd-analyze verify of the template units", (len(units), faults), (11, []))
+    cases.show("maps: systemd-analyze verify of the template units", (len(units), faults), (12, []))
 
 
 def commands(cases, here):
@@ -145,7 +146,7 @@ def commands(cases, here):
     modes = [here.mode(*path) for path in (["etc/vtserve/maps/north"], ["var/lib/vtserve/north/map.disk"], ["var/lib/vtserve/north"])]
     cases.show("maps: modes of its files, and of its folder", modes, ["0o640", "0o640", "0o750"])
     with open(here.path("etc/vtserve/maps/north"), encoding="utf-8") as file:
-        cases.show("maps: its file", file.read().splitlines()[1:], ["PORT=8100", "GATEWAY=8101", 'HOSTS="north.example.org"'])
+        cases.show("maps: its file", file.read().splitlines()[1:], ["PORT=8100", "GATEWAY=8101", 'HOSTS="north.example.org"', "PICTURES=18100"])
     with open(here.path("etc/systemd/system/vtserve@north.service.d/memory.conf"), encoding="utf-8") as file:
         cases.show("maps: its limit", file.read(), "[Service]\nMemoryMax=512M\n")
     cases.show("maps: a map that is there", here.maps("add", "north"), (1, ["there is a map north already"]))
@@ -214,9 +215,21 @@ def addresses(cases, here, front):
         cases.show("maps: its metrics", [line for line in file.read().splitlines() if line.startswith("vtserve_features")], ['vtserve_features{map="north"} 1'])
     links = {link["rel"]: link["href"] for link in json.loads(answered(url + "/north/ogc/")[2])["links"]}
     cases.show("maps: its gateway knows the path", links["data"], f"{url}/north/ogc/collections")
-    cases.show("maps: a map without a gateway", status_of(curl(url + "/south/ogc/")), 502)
+    cases.show("maps: a map without a gateway, and without pictures", [status_of(curl(url + path)) for path in ("/south/ogc/", "/south/xyz/0/0/0.png")], [502] * 2)
+    if has_cairo(cases):
+        drawn(cases, here, front)
     logs = {name: open(os.path.join(front.folder, name), encoding="utf-8").read().count("\n") for name in sorted(os.listdir(front.folder)) if "edits" in name}
     cases.show("maps: a log of the edits of each", logs, {"edits-east.log": 1, "edits-north.log": 1, "edits-south.log": 1, "edits.log": 1})
+
+
+def drawn(cases, here, front):
+    """The pictures of a map, at its path."""
+    with open(here.path("etc/vtserve/maps/south"), encoding="utf-8") as file:
+        ports = dict(line.rstrip().split("=") for line in file if line.startswith(("PORT=", "PICTURES=")))
+    with Drawer(here.root, f"http://127.0.0.1:{ports['PORT']}", port=ports["PICTURES"]):
+        seen = [status_of(curl(f"{front.url}{path}")) for path in ("/south/xyz/0/0/0.png", "/south/wmts/1.0.0/map/default/GoogleMapsCompatible/0/0/0.png")]
+        told = curl(front.url + "/south/wmts/1.0.0/WMTSCapabilities.xml")[2].decode()
+        cases.show("maps: its pictures, and where they say that they are", (seen, f'"{front.url}/south/wmts?"' in told), ([200, 200], True))
 
 
 def boxes(cases, here, front):
@@ -241,7 +254,8 @@ def boxes(cases, here, front):
     cases.show("maps: a box", here.maps("bounds", "south", "--bounds=-7.2,54.3,-6.5,54.8"), (0, ["south: bounds -7.2,54.3,-6.5,54.8"]))
     cases.show("maps: its TileJSON has it", tilejson(([-7.2, 54.3, -6.5, 54.8], [-6.85, 54.55, 9])), ([-7.2, 54.3, -6.5, 54.8], [-6.85, 54.55, 9]))
     with open(here.path("etc/vtserve/maps/south"), encoding="utf-8") as file:
-        cases.show("maps: its file, with what was added to it", file.read().splitlines()[3:], ['HOSTS=""', "VTSERVE_PAUSE=5", "BOUNDS=-7.2,54.3,-6.5,54.8"])
+        lines = [line for line in file.read().splitlines()[3:] if not line.startswith("PICTURES=")]
+        cases.show("maps: its file, with what was added to it", lines, ['HOSTS=""', "VTSERVE_PAUSE=5", "BOUNDS=-7.2,54.3,-6.5,54.8"])
     cases.show("maps: no box any more", here.maps("bounds", "south"), (0, ["south: no bounds"]))
     cases.show("maps: nor has its TileJSON", tilejson((None, None)), (None, None))
 

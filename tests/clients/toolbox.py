@@ -13,8 +13,8 @@ from stand import EXAMPLES, TOP, VTMAP, Nginx, Server, curl, feature
 sys.path.append(TOP)
 from vtmap.client.client import Client  # noqa: E402
 
-NAMES = ["try", "import", "update", "checkout", "checkin", "wfs", "schema", "save", "load", "publish", "join", "watch", "maps", "delete-layer", "qgis", "follow",
-         "log", "undo", "draw"]
+NAMES = ["try", "import", "update", "checkout", "checkin", "wfs", "wmts", "schema", "save", "load", "publish", "join", "watch", "maps", "replica", "takeover",
+         "delete-layer", "qgis", "follow", "log", "undo", "draw"]
 OLD = {
     "import_features.py": "vtmap import",
     "gis.py": "vtmap checkout and vtmap checkin",

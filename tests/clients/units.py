@@ -11,6 +11,7 @@ import subprocess
 import time
 
 from gateways import Gateway, Gis, triangle
+from pictures import Drawer, has_cairo
 from stand import PROGRAM, TOP, VTMAP, Server, curl, feature, free_port, status_of
 
 # The greatest exposure of each unit, by systemd-analyze.
@@ -23,6 +24,7 @@ EXPOSURE = {
     "vtserve-log.service": 1.5,
     "vtserve-standby.service": 1.5,
     "vtserve-wfs.service": 1.5,
+    "vtserve-wmts.service": 1.5,
     "vtserve-replicas.service": 1.5,
     "vtserve-replica@.service": 1.5,
 }
@@ -133,6 +135,23 @@ def gateway(cases, folder):
     cases.show("units: memory of it that is writable and executable", [line for line in lines if "PROT_WRITE|PROT_EXEC" in line], [])
 
 
+def pictures(cases, folder):
+    """The system calls of `vtmap wmts` and of the processes that draw, and their memory."""
+    trace = os.path.join(folder, "drawer.trace")
+    with Server(folder, "drawn", 4096) as server, Drawer(folder, server.url, under=["strace", "-f", "-o", trace]) as drawer:
+        curl(f"{server.url}/features/1", "-X", "PUT", body=feature(tags={"name": "p"}))
+        status = status_of(curl(drawer.url + "/xyz/1/1/1.png"))
+        with open(f"/proc/{drawer.child.pid}/task/{drawer.child.pid}/children", encoding="ascii") as file:
+            os.kill(int(file.read().split()[0]), signal.SIGTERM)
+        ended = drawer.child.wait(60)
+    with open(trace, encoding="utf-8", errors="replace") as file:
+        lines = file.read().splitlines()
+    calls = {found[1] for line in lines if (found := re.match(r"\d+ +(\w+)\(", line))}
+    cases.show("units: vtmap wmts draws, and ends at SIGTERM", (status, ended), (200, 0))
+    cases.show("units: system calls of it that its unit doesn't allow", sorted(calls - filtered("vtserve-wmts.service")), [])
+    cases.show("units: memory of it that is writable and executable", [line for line in lines if "PROT_WRITE|PROT_EXEC" in line], [])
+
+
 def told_alive(cases, folder):
     """What systemd is told by `vtmap wfs`, whose unit has a watchdog: that it answers, and nothing while it doesn't."""
     path, names = os.path.join(folder, "notify"), ("NOTIFY_SOCKET", "WATCHDOG_USEC")
@@ -235,6 +254,8 @@ def units(cases, folder):
         return
     tasks(cases, folder)
     gateway(cases, folder)
+    if has_cairo(cases):
+        pictures(cases, folder)
     statuses, calls, lines = session(folder)
     cases.show("units: a session under strace", statuses, [200] * 7)
     cases.show("units: system calls of serve that its unit doesn't allow", sorted(calls - filtered("vtserve.service")), [])

@@ -6,7 +6,7 @@ import re
 
 from ..client.client import Client
 from ..faults import Fault, NoAnswer, Refused, Wrong
-from ..machine.machine import Machine
+from ..machine.machine import DRAWER, GATEWAY, Machine
 from ..machine.map_file import MapHere, box, new_map
 
 ABOUT = {"maps": """Lists, adds and removes the maps of a machine that serves several. Run it as root, on that machine.
@@ -21,7 +21,7 @@ its ports. Its processes are vtserve@NAME and its companions of systemd. Behind 
 and at / of each --host.
 
 add makes the disk file, unless it is there from a time before, and starts the server and the timers that publish, watch
-and save the map; with --wfs also its gateway for QGIS. bounds changes the box that the map's TileJSON
+and save the map; with --wfs also its gateway for QGIS, and with --wmts its pictures. bounds changes the box that the map's TileJSON
 (/NAME/map.json) tells clients, who ask for no tile outside of it: give one that features never leave. remove stops them, and keeps the disk file and the backups. No
 other map is touched: nginx reads its configuration again, and no request fails."""}
 FRONT = "http://localhost:8000"
@@ -48,6 +48,7 @@ def options(parser: argparse.ArgumentParser, _: str) -> None:
     parser.add_argument("--port", type=int, help="the port of its server, before its gateway's (8100, 8102, ..)")
     parser.add_argument("--bounds", metavar="W,S,E,N", type=bounds, help="the box of its features in degrees, as --bounds=W,S,E,N; clients ask for no tile outside")
     parser.add_argument("--wfs", action="store_true", help="start its gateway for QGIS too")
+    parser.add_argument("--wmts", action="store_true", help="start its pictures too")
     parser.add_argument("--front", metavar="URL", default=FRONT, help=f"the address of nginx, for the list ({FRONT})")
     parser.add_argument("--root", metavar="FOLDER", default="/", help="the folder of /etc and /var, for a try")
 
@@ -107,7 +108,7 @@ def add(machine: Machine, words: argparse.Namespace) -> None:
     try:
         if words.memory:
             machine.limit(one.name, words.memory)
-        machine.start(one, words.wfs)
+        machine.start(one, [GATEWAY] * words.wfs + [DRAWER] * words.wmts)
         is_there = machine.tell_nginx(sorted([*maps, one]))
     except BaseException:
         machine.forget(one.name)

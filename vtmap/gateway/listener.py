@@ -270,7 +270,11 @@ class Handler(BaseHTTPRequestHandler):
         fields = [("Content-Type", kind), ("Content-Length", len(data))] if kind else []
         fields += [("Cache-Control", "no-store"), *SAFETY, *more]
         fields += [("Content-Encoding", "gzip")] if is_zipped else []
-        fields += [("Connection", "close")] if self.close_connection else []
+        self.write(status, data, fields)
+
+    def write(self, status, data, fields):
+        """Writes a reply with these fields."""
+        fields = [*fields, ("Connection", "close")] if self.close_connection else fields
         head = "\r\n".join([f"HTTP/1.1 {status} {http.HTTPStatus(status).phrase}", *(f"{name}: {value}" for name, value in fields), "", ""])
         try:
             # The time of all of it.

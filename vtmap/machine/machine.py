@@ -24,10 +24,10 @@ MAPS, NGINX, UNITS, DISKS, BACKUPS = (
 )
 # What is started with a map, and what else may run for it.
 STARTED = ("vtserve@{}.service", "vtserve-publish@{}.timer", "vtserve-watch@{}.timer", "vtserve-backup@{}.timer")
-GATEWAY = "vtserve-wfs@{}.service"
+GATEWAY, DRAWER = "vtserve-wfs@{}.service", "vtserve-wmts@{}.service"
 # What is done once at first: `vtmap watch` looks for both.
 FIRST = ("vtserve-publish@{}.service", "vtserve-backup@{}.service")
-OTHERS = (GATEWAY, "vtserve-log@{}.service", "vtserve-standby@{}.service")
+OTHERS = (GATEWAY, DRAWER, "vtserve-log@{}.service", "vtserve-standby@{}.service")
 FRONT, FRONT_FILE, FRONT_FOLDER = "vtserve-nginx.service", "etc/vtserve/nginx.conf", "var/lib/vtserve-nginx"
 # What nginx includes of the maps that a standby has, in which nobody else makes edits.
 CLOSED = f"{NGINX}/closed.conf"
@@ -129,10 +129,9 @@ class Machine:
         replaced(os.path.join(folder, "memory.conf"), f"[Service]\nMemoryMax={memory}\n")
         self.systemctl("daemon-reload")
 
-    def start(self, one: MapHere, has_gateway: bool) -> None:
-        """Starts what serves a map, now and with the machine."""
-        units = (*STARTED, GATEWAY) if has_gateway else STARTED
-        self.systemctl("enable", "--now", *(unit.format(one.name) for unit in units))
+    def start(self, one: MapHere, further: list[str]) -> None:
+        """Starts what serves a map, now and with the machine. `further`: other units than each map has."""
+        self.systemctl("enable", "--now", *(unit.format(one.name) for unit in (*STARTED, *further)))
         self.systemctl("start", "--no-block", *(unit.format(one.name) for unit in FIRST))
 
     def stop(self, name: str) -> None:

@@ -10,28 +10,30 @@ from ..faults import Refused, Wrong
 
 NAME, HOST = re.compile(r"[a-z][a-z0-9-]{0,30}"), re.compile(r"[a-z0-9]([a-z0-9.-]{0,252}[a-z0-9])?")
 # The first part of paths that one map has: they can't be names too.
-PATHS = ("admin", "edits", "features", "map", "ogc", "pages", "publish", "wfs")
-# Each map has two ports, from these on: its server's, and its gateway's after it.
-FIRST_PORT, LAST_PORT = 8100, 65534
+PATHS = ("admin", "edits", "features", "map", "ogc", "pages", "publish", "wfs", "wmts", "xyz")
+# Each map has two ports, from these on: its server's, and its gateway's after it. That of its pictures is so far from them.
+FIRST_PORT, LAST_PORT, FAR = 8100, 65534, 10000
 ABOUT = """# The map {name}, by `vtmap maps`. Its units read this file: add variables of their commands, such as VTSERVE_PAUSE.
 """
 
 
 class MapHere(NamedTuple):
-    """A map of this machine: its name, the ports of its server and of its gateway, its own host names, and the box in which its features are, in
-    degrees from west and south to east and north."""
+    """A map of this machine: its name, the ports of its server and of its gateway, its own host names, the box in which its features are, in degrees
+    from west and south to east and north, and the port of its pictures, 0 if the map is older than they are."""
 
     name: str
     port: int
     gateway: int
     hosts: tuple[str, ...] = ()
     bounds: tuple[float, ...] = ()
+    pictures: int = 0
 
     @property
     def text(self) -> str:
         """The content of its file."""
         hosts, bounds = " ".join(self.hosts), ",".join(f"{degrees:g}" for degrees in self.bounds)
-        return ABOUT.format(name=self.name) + f'PORT={self.port}\nGATEWAY={self.gateway}\nHOSTS="{hosts}"\n' + (f"BOUNDS={bounds}\n" if bounds else "")
+        further = [f"PICTURES={self.pictures}\n"] * bool(self.pictures) + [f"BOUNDS={bounds}\n"] * bool(bounds)
+        return ABOUT.format(name=self.name) + f'PORT={self.port}\nGATEWAY={self.gateway}\nHOSTS="{hosts}"\n' + "".join(further)
 
 
 def box(text: str) -> tuple[float, ...]:
@@ -55,7 +57,7 @@ def map_of(name: str, text: str) -> MapHere:
     try:
         hosts = tuple(" ".join(shlex.split(words.get("HOSTS", ""))).split())
         bounds = box(words["BOUNDS"]) if words.get("BOUNDS") else ()
-        return MapHere(name, int(words["PORT"]), int(words["GATEWAY"]), hosts, bounds)
+        return MapHere(name, int(words["PORT"]), int(words["GATEWAY"]), hosts, bounds, int(words.get("PICTURES", 0)))
     except (LookupError, ValueError) as fault:
         raise Refused(f"the file of the map {name} has no PORT and GATEWAY that are numbers ({fault})") from None
 
@@ -72,9 +74,9 @@ def new_map(name: str, port: int | None, hosts: list[str], bounds: tuple[float, 
     for host in hosts:
         if host in taken:
             raise Refused(f"{host} is a name of the map {taken[host]}")
-    used = {each for other in others for each in (other.port, other.gateway)}
+    used = {each for other in others for each in (other.port, other.gateway, other.pictures)}
     if port is None:
         port = next(each for each in range(FIRST_PORT, LAST_PORT, 2) if not used & {each, each + 1})
     elif used & {port, port + 1} or not 0 < port <= LAST_PORT:
         raise Refused(f"port {port}, or the one after it, is used by another map, or is none")
-    return MapHere(name, port, port + 1, tuple(hosts), bounds)
+    return MapHere(name, port, port + 1, tuple(hosts), bounds, port + FAR if port + FAR <= LAST_PORT else port - FAR)

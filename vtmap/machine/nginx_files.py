@@ -7,9 +7,13 @@ ABOUT = "# Written by `vtmap maps`.\n"
 
 
 def upstream_of(one: MapHere) -> str:
-    """Who has a map and its gateway, and the log of its edits."""
+    """Who has a map, its gateway and its pictures, and the log of its edits."""
     variable = f"$is_edit_of_{one.name.replace('-', '_')}"
-    return f"""upstream vtserve-{one.name} {{
+    drawer = f"""upstream drawer-{one.name} {{
+    server 127.0.0.1:{one.pictures};
+}}
+""" if one.pictures else ""
+    return drawer + f"""upstream vtserve-{one.name} {{
     server 127.0.0.1:{one.port};
     keepalive 4;
     keepalive_timeout 30s;
