@@ -1,15 +1,17 @@
 #!/usr/bin/env python3
 """Writes the scripts of the programs that are tests, and what they must print, from the models beside this file.
 
-    python3 model/scripts.py            writes the files stdin and stdout of each
-    python3 model/scripts.py map_runs   those of this program alone: `service_runs` takes ten times as long
-    python3 model/scripts.py --check    compares them with those that are there, and ends with 1 where one differs
+    python3 model/scripts.py                writes the files stdin and stdout of each
+    python3 model/scripts.py reply_script   what this module writes of them alone, and leaves the rest as it is
+    python3 model/scripts.py --check        compares them with those that are there, and ends with 1 where one differs
     python3 model/scripts.py --check map_script read_script
-                                        the same for what these modules write alone: `service_script` takes longer than all others together
+                                            the same for what these modules write alone
 
-A module of `MODULES` has the name of its crate, `CRATE`, and a function `files` from which its files come, by their names. Modules of one crate stand side
-by side: each writes the part of its script that `PART` names. At the end comes what the folder `worked` of the crate has: examples whose answers no model
-made, and which nothing here writes anew.
+`service_script` takes longer than all others together. A module of `MODULES` has the name of its crate, `CRATE`, and a
+function `files` from which its files come, by their names. Modules of one crate stand side by side: each writes the part
+of its script that `PART` names. At the end comes what the folder `worked` of the crate has: examples whose answers no
+model made, and which nothing here writes anew. Each line of a script has one line of answer, and so is found in stdout
+where it is in stdin; a line that names a part has none.
 """
 import concurrent.futures
 import importlib
@@ -51,25 +53,43 @@ def made_by(modules):
         return list(pool.map(part_of, modules))
 
 
-def check_parts(modules):
-    """Compares what some modules write with the part of a script that it should be. Returns the status."""
+def lines_of(text):
+    """The lines of a text, each with its line feed: other characters end no line."""
+    return [line + "\n" for line in text.split("\n")[:-1]]
+
+
+def with_part(stdin, stdout, files):
+    """A script and its answers, in which the part that these files begin is what they have."""
+    commands, answers = lines_of(stdin), lines_of(stdout)
+    first, *_ = lines_of(files["stdin"])
+    at = [number for number, line in enumerate(commands) if line.startswith("part ")]
+    start = commands.index(first)
+    end = min((number for number in at if number > start), default=len(commands))
+    # Each of the parts before has a line that has no answer.
+    before = start - sum(number < start for number in at)
+    after = before + end - start - 1
+    return (
+        "".join([*commands[:start], files["stdin"], *commands[end:]]),
+        "".join([*answers[:before], files["stdout"], *answers[after:]]),
+    )
+
+
+def write_parts(modules, check):
+    """Writes, or compares, what some modules write of the scripts of their crates. Returns the status."""
     differ = 0
-    for name, (crate, files) in zip(modules, made_by(modules)):
-        for file in ("stdin", "stdout"):
-            if files[file] not in (CRATES / crate / file).read_text():
-                print(f"{crate}/{file}: the part of {name} differs")
-                differ += 1
-    return 1 if differ else 0
+    for crate, files in made_by(modules):
+        folder = CRATES / crate
+        if len(lines_of(files["stdin"])) - 1 != len(lines_of(files["stdout"])):
+            sys.exit(f"{crate}: not one answer for each line")
+        texts = with_part((folder / "stdin").read_text(), (folder / "stdout").read_text(), files)
+        for file, text in zip(("stdin", "stdout"), texts):
+            differ += differs(folder / file, text, check)
+    return 1 if check and differ else 0
 
 
-def modules_of(crate):
-    """The modules that write a crate's script."""
-    return [name for name in MODULES if importlib.import_module(name).CRATE == crate]
-
-
-def main(check, modules=MODULES):
+def main(check):
     differ = 0
-    parts = made_by(modules)
+    parts = made_by(MODULES)
     for crate, of_crate in itertools.groupby(parts, lambda part: part[0]):
         # The files of a crate are those of its modules, one after the other.
         found = [files for _, files in of_crate]
@@ -80,8 +100,6 @@ def main(check, modules=MODULES):
 
 if __name__ == "__main__":
     chosen = [word for word in sys.argv[1:] if word != "--check"]
-    if len(sys.argv) == 2 and modules_of(sys.argv[1]):
-        sys.exit(main(False, modules_of(sys.argv[1])))
-    if not set(chosen) <= set(MODULES) or (chosen and "--check" not in sys.argv):
-        sys.exit(f"CRATE, or --check [MODULE ..], where modules are {', '.join(MODULES)}")
-    sys.exit(check_parts(chosen) if chosen else main("--check" in sys.argv))
+    if not set(chosen) <= set(MODULES):
+        sys.exit(f"[--check] [MODULE ..], where modules are {', '.join(MODULES)}")
+    sys.exit(write_parts(chosen, "--check" in sys.argv) if chosen else main("--check" in sys.argv))
