@@ -2,7 +2,8 @@
 """Writes the scripts of the programs that are tests, and what they must print, from the models beside this file.
 
     python3 model/scripts.py                writes the files stdin and stdout of each
-    python3 model/scripts.py reply_script   what this module writes of them alone, and leaves the rest as it is
+    python3 model/scripts.py reply_script   what this module writes of them alone, and leaves the rest as it is; the name
+                                            of a crate stands for its modules
     python3 model/scripts.py --check        compares them with those that are there, and ends with 1 where one differs
     python3 model/scripts.py --check map_script read_script
                                             the same for what these modules write alone
@@ -87,6 +88,11 @@ def write_parts(modules, check):
     return 1 if check and differ else 0
 
 
+def modules_of(name):
+    """The modules that a name says: itself, or those that write the script of the crate of this name."""
+    return [name] if name in MODULES else [each for each in MODULES if importlib.import_module(each).CRATE == name]
+
+
 def main(check):
     differ = 0
     parts = made_by(MODULES)
@@ -99,7 +105,8 @@ def main(check):
 
 
 if __name__ == "__main__":
-    chosen = [word for word in sys.argv[1:] if word != "--check"]
-    if not set(chosen) <= set(MODULES):
-        sys.exit(f"[--check] [MODULE ..], where modules are {', '.join(MODULES)}")
+    words = [word for word in sys.argv[1:] if word != "--check"]
+    chosen = [module for word in words for module in modules_of(word)]
+    if not all(map(modules_of, words)):
+        sys.exit(f"[--check] [MODULE or CRATE ..], where modules are {', '.join(MODULES)}")
     sys.exit(write_parts(chosen, "--check" in sys.argv) if chosen else main("--check" in sys.argv))
