@@ -5,6 +5,7 @@ import { Here } from "./here.js";
 import { Keys } from "./keys.js";
 import { actions, button, byId, close, covered, element, open, table, tell } from "./panel.js";
 import { publishedBox } from "./place.js";
+import { Print } from "./print.js";
 import { search, titleOf } from "./search.js";
 import { Server } from "./server.js";
 import { pointsOf } from "./shape.js";
@@ -18,7 +19,7 @@ const BETWEEN_LOOKS = { editor: 4, viewer: 30 };
 // How many of the features that are found are listed.
 const MAX_FOUND = 50;
 const server = new Server(new URL("../", location.href));
-let style, view, editor, drop, keys, here, layers;
+let style, view, editor, drop, keys, here, print, layers;
 // Why this machine may not edit, as `Server.status` says it, or undefined; whether the first look is over; whether the last one got no answer.
 let refused, isBegun = false, isAway = false;
 // The next look.
@@ -191,6 +192,7 @@ function listen() {
     byId("farther").onclick = () => view.zoomBy(-1);
     byId("here").hidden = !Here.isPossible;
     byId("here").onclick = () => here.go().then(metres => tell(texts.hereWithin(metres)), fault => tell(fault.message, true));
+    byId("print").onclick = () => editor.draft || drop.file ? tell(texts.finishFirst, true) : print.begin(leave);
     byId("adding").onclick = ({ target }) => target.value && !editor.hasChanges && !drop.file && editor.draw(target.value);
     listenToFiles();
     byId("search").onsubmit = event => {
@@ -268,6 +270,7 @@ async function start() {
         over: context => {
             here.over(context);
             drop.over(context);
+            print.over(context);
             editor.over(context);
             keys.over(context);
         },
@@ -275,6 +278,7 @@ async function start() {
     });
     view.selected = () => editor.draft || byId("panel").hidden ? null : selected?.id;
     here = new Here(view);
+    print = new Print(view, server, style);
     editor = new Editor(view, server, () => layers, showEdit);
     drop = new Drop(view, server, () => layers, showEdit);
     keys = new Keys(view, editor, select);

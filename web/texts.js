@@ -12,6 +12,11 @@ const EN = {
     newPoint: "New point", newLine: "New line", newArea: "New area",
     search: "Search", searchFor: "Id, or text in view", find: "Find", layers: "Layers", backdrop: "Backdrop",
 
+    printMap: "Print …", print: "Print", printTitle: "title", paper: "paper", orientation: "sides", landscape: "landscape", portrait: "portrait",
+    scale: "scale",
+    printHelp: "The blue frame shows what is printed. For a PDF choose that as the printer. Print in the actual size (100 %), so that the scale is right.",
+    drawsPage: "the page is being drawn", pageIsDrawn: "the page is drawn", inTheMiddle: "(in the middle)",
+
     keys: "Arrows move the map, with Shift a little; plus and minus zoom. Enter selects what is at the cross in the middle. Find without a text lists what "
         + "is in view.",
     nothingHere: "nothing is at the cross", nothingInView: "nothing is in view",
@@ -91,6 +96,11 @@ const DE = {
     hereRefused: "der Browser sagt der Seite nicht, wo du bist: in seinen Einstellungen erlauben", hereUnknown: "der Browser weiß nicht, wo du bist",
     newPoint: "Neuer Punkt", newLine: "Neue Linie", newArea: "Neue Fläche",
     search: "Suche", searchFor: "Nummer, oder Text im Bild", find: "Suchen", layers: "Ebenen", backdrop: "Hintergrund",
+
+    printMap: "Drucken …", print: "Drucken", printTitle: "Titel", paper: "Papier", orientation: "Seiten", landscape: "quer", portrait: "hoch",
+    scale: "Maßstab",
+    printHelp: "Der blaue Rahmen zeigt, was gedruckt wird. Für ein PDF dieses als Drucker wählen. In wirklicher Größe (100 %) drucken, damit der Maßstab stimmt.",
+    drawsPage: "die Seite wird gezeichnet", pageIsDrawn: "die Seite ist gezeichnet", inTheMiddle: "(in der Mitte)",
 
     keys: "Pfeiltasten bewegen die Karte, mit Umschalt ein wenig; Plus und Minus zoomen. Enter wählt aus, was am Kreuz in der Mitte ist. Suchen ohne Text "
         + "zählt auf, was im Bild ist.",

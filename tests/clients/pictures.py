@@ -30,6 +30,32 @@ for x, y in ((0, 0), (half, 0), (0, half), (half, half)):
     print(*[data.GetRasterBand(band).ReadAsArray(x, y, half, half, 8, 8)[4][4] for band in (1, 2, 3)])
 print(data.GetGeoTransform()[0], data.RasterXSize)
 """
+# By QGIS: whether the layer is one, and the colours in the middle of each quarter of the world.
+QGIS = """
+import os, sys
+os.environ["QT_QPA_PLATFORM"] = "offscreen"
+from qgis.core import *
+from qgis.PyQt.QtCore import QSize
+app = QgsApplication([], False, os.path.join(sys.argv[1], "profile"))
+app.initQgis()
+layer = QgsRasterLayer(sys.argv[2], "map", "wms")
+print(layer.isValid(), layer.crs().authid())
+settings = QgsMapSettings()
+settings.setLayers([layer])
+settings.setDestinationCrs(layer.crs())
+settings.setExtent(QgsRectangle(-2e7, -2e7, 2e7, 2e7))
+settings.setOutputSize(QSize(512, 512))
+job = QgsMapRendererParallelJob(settings)
+job.start()
+job.waitForFinished()
+image = job.renderedImage()
+for x, y in ((128, 128), (384, 128), (128, 384), (384, 384)):
+    colour = image.pixelColor(x, y)
+    print(colour.red(), colour.green(), colour.blue())
+sys.stdout.flush()
+os._exit(0)
+"""
+OF_WMTS = f"crs=EPSG:3857&dpiMode=7&format={PNG}&layers=map&styles=default&tileMatrixSet=GoogleMapsCompatible&url="
 
 
 class Drawer:
@@ -229,6 +255,24 @@ def by_gdal(cases, url):
         child = subprocess.run([SYSTEM_PYTHON, "-c", READ, "WMTS:" + address], capture_output=True, text=True, env=words, check=False, timeout=120)
         shutil.rmtree(words["GDAL_DEFAULT_WMS_CACHE_PATH"], ignore_errors=True)
         cases.show(f"wmts: GDAL reads {address.partition('/wmts')[2]}", child.stdout.splitlines() or child.stderr, wanted)
+
+
+def by_qgis(cases, folder):
+    """QGIS's layers of WMTS and of tiles: the part `wmts-qgis`."""
+    if subprocess.run([SYSTEM_PYTHON, "-c", "import qgis.core"], capture_output=True, check=False).returncode or not has_cairo(cases):
+        cases.say("no python3-qgis, or no python3-cairo: QGIS reads no pictures")
+        return
+    folder = os.path.join(folder, "wmts-qgis")
+    os.mkdir(folder)
+    wanted = ["True EPSG:3857", *(" ".join(map(str, one)) for one in (BACKGROUND, LAND, BACKGROUND, BACKGROUND))]
+    with Server(folder, "map", more=("--admin", "--etags")) as server, Drawer(folder, server.url) as drawer:
+        curl(f"{server.url}/features/1", "-X", "PUT", body=quarter())
+        for name, source in (("WMTS by paths", OF_WMTS + drawer.url + CAPABILITIES),
+                             ("WMTS by queries", OF_WMTS + drawer.url + "/wmts?SERVICE%3DWMTS%26REQUEST%3DGetCapabilities"),
+                             ("tiles", f"type=xyz&zmin=0&zmax=22&url={drawer.url}/xyz/%7Bz%7D/%7Bx%7D/%7By%7D.png"),
+                             ("sharp tiles", f"type=xyz&zmin=0&zmax=22&tilePixelRatio=2&url={drawer.url}/xyz/%7Bz%7D/%7Bx%7D/%7By%7D@2x.png")):
+            child = subprocess.run([SYSTEM_PYTHON, "-c", QGIS, folder, source], capture_output=True, text=True, check=False, timeout=120)
+            cases.show(f"wmts: QGIS draws {name}", child.stdout.splitlines() or child.stderr, wanted)
 
 
 def anew(cases, url, server, style):

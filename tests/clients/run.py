@@ -39,9 +39,10 @@ from operation import operation
 from outsiders import outsiders
 from page_files import page_files
 from page_hands import page_hands
+from page_print import page_print
 from page_tools import page_tools
 from pages import page
-from pictures import wmts
+from pictures import by_qgis, wmts
 from refusals import refused_features, refused_requests
 from replicas import replicas
 from round_trips import round_trips
@@ -88,6 +89,7 @@ def main():
         "page-tools": page_tools,
         "page-hands": page_hands,
         "page-files": page_files,
+        "page-print": page_print,
         "desktop": desktop,
         "checkins": checkins,
         "lost-replies": lost_replies,
@@ -108,6 +110,7 @@ def main():
         "schema": schema,
         "ogc": ogc,
         "wmts": wmts,
+        "wmts-qgis": by_qgis,
         "standards": standards,
         "operation": operation,
         "admin": admin,
