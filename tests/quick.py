@@ -72,6 +72,7 @@ PARTS = [
     client("ogc"),
     client("standards"),
     client("wmts"),
+    client("files"),
     client("admin"),
     page_of("docs/HTTP.md"),
     page_of("docs/COMMANDS.md"),

@@ -20,6 +20,7 @@ COMMANDS = {
     "checkin": ("checkin", "sends what was edited in that GeoPackage"),
     "wfs": ("wfs", "lets QGIS edit the map itself by WFS, and other programs read it by OGC API Features"),
     "wmts": ("wmts", "serves pictures of the map to programs that know no vectors (WMTS, tiles as PNG)"),
+    "files": ("files", "lists photos and files that no feature names, and those that are missing"),
     "schema": ("schema", "shows, changes and checks which layers and fields the map is to have"),
     "save": ("backup", "saves the features of the map in a file"),
     "load": ("backup", "puts them back"),

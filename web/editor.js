@@ -118,7 +118,8 @@ export class Editor {
 
     openForm() {
         const { feature, pieces, was, id } = this.draft;
-        this.draft.form = formOf(feature, this.layers().map(layer => layer.id).filter(name => !isOutline(name)), !was);
+        this.draft.form = formOf(feature, this.layers().map(layer => layer.id).filter(name => !isOutline(name)), !was,
+            file => this.server.keep(file));
         const shape = pieces ? texts.cutShape(pieces.length) : `${described(feature.geometry)}. ${texts.shapeHelp} ${texts.keysOfShape}`;
         const large = !pieces && isLarge(feature) ? [hint(texts.tooLarge)] : [];
         const along = element("input", { type: "checkbox", onchange: ({ target }) => this.bring(target.checked) });

@@ -1,4 +1,6 @@
 // The form of a feature: its layer, its zooms and its tags.
+import { chooses } from "./attach.js";
+import { nameFor } from "./attached.js";
 import { button, element, table } from "./panel.js";
 import { texts } from "./texts.js";
 
@@ -42,14 +44,22 @@ function tagRow(name, value, isNew) {
     return row;
 }
 
-/** The form of a feature. Its `read()` gives the layer, the zooms and the tags that it says, or throws why it can't. */
-export function formOf({ layer, minzoom, maxzoom, tags }, layers, isNew) {
+/**
+ * The form of a feature. Its `read()` gives the layer, the zooms and the tags that it says, or throws why it can't. `keep(file)` keeps a photo or a file,
+ * and returns the value of the tag that names it.
+ */
+export function formOf({ layer, minzoom, maxzoom, tags }, layers, isNew, keep) {
     const names = element("datalist", { id: "layers" }, ...layers.map(value => element("option", { value })));
     const name = field(texts.layer, layer), [first, last] = [field(texts.firstZoom, minzoom), field(texts.lastZoom, maxzoom)];
     name.setAttribute("list", "layers");
     const rows = element("tbody", { className: "tags" }, ...Object.entries(tags).map(pair => tagRow(...pair, isNew)));
     const fixed = table([[texts.layer, name], [texts.firstZoom, first], [texts.lastZoom, last]]);
-    const made = element("form", {}, names, fixed, element("table", {}, rows), button(texts.addTag, () => rows.append(tagRow("", "", true))));
+    const attach = async file => {
+        const path = await keep(file), taken = [...rows.children].map(row => row.cells[0].firstChild.value);
+        rows.append(tagRow(nameFor(path, taken), path, true));
+    };
+    const adding = [button(texts.addTag, () => rows.append(tagRow("", "", true))), ...chooses(texts.addFile, attach)];
+    const made = element("form", {}, names, fixed, element("table", {}, rows), ...adding);
     made.read = () => {
         const pairs = [...rows.children].map(row => row.read()).filter(Boolean);
         const twice = pairs.find(([key], at) => pairs.findIndex(pair => pair[0] === key) < at);

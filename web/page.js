@@ -1,4 +1,5 @@
 // The page: what is selected, and how the parts of this folder work together.
+import { shown } from "./attach.js";
 import { Drop } from "./drop.js";
 import { Editor } from "./editor.js";
 import { Here } from "./here.js";
@@ -60,7 +61,7 @@ function select(point, isFree = false, isTouched = false) {
 
 /** Shows a feature as a tile has it. */
 function show(feature) {
-    const { whole, ...tags } = feature.tags, parts = [table(Object.entries(tags).map(([name, value]) => [name, String(value)]))];
+    const { whole, ...tags } = feature.tags, parts = [table(Object.entries(tags).map(([name, value]) => [name, shown(value, name, server.base)]))];
     whole === undefined || parts.push(element("p", { className: "hint" }, texts.piece));
     const edits = refused ? [] : [button(texts.edit, () => editor.begin(feature, false)), button(texts.delete, () => editor.begin(feature, true))];
     open(`${plain(feature.layer)} ${feature.id}`, ...parts, actions(...edits, button(texts.close, leave)));

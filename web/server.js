@@ -1,4 +1,5 @@
 // The server of the map: tiles, features, and checked edits, which are made only if each feature is what its author saw (docs/HTTP.md).
+import { MAX_FILE } from "./attached.js";
 import { MAX_BODY } from "./import_rules.js";
 import { texts } from "./texts.js";
 
@@ -90,6 +91,19 @@ export class Server {
             throw refusal(status, new TextDecoder().decode(content));
         }
         return { tag, bytes: status === 304 ? null : new Uint8Array(content) };
+    }
+
+    /** Keeps a photo or a file. Returns its path, which is a tag's value then. */
+    async keep(file) {
+        if (file.size > MAX_FILE) {
+            throw new Error(texts.tooLargeFile(file.name, `${MAX_FILE / 2 ** 20} MiB`));
+        }
+        const headers = { "Content-Type": file.type || "application/octet-stream" };
+        const { status, content } = await this.ask("files/", { method: "POST", body: file, headers }), told = new TextDecoder().decode(content);
+        if (status !== 201) {
+            throw texts.fileRefusals[status] ? new Refused(`${texts.fileRefusals[status]} (${status})`, status) : refusal(status, told);
+        }
+        return JSON.parse(told).path;
     }
 
     /** The tag of a tile that had the tag `known`; null without `--etags`. The tile itself isn't sent. */

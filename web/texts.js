@@ -58,6 +58,12 @@ const EN = {
 
     layer: "layer", firstZoom: "first zoom", lastZoom: "last zoom", shape: "shape", tag: "tag", value: "value", kindOfValue: "kind of value",
     tagNamed: name => `tag ${name}`, addTag: "Add a tag", removeTag: name => `Remove the tag ${name}`,
+    addFile: "Photo or file …", openFile: name => `open ${name}`, noPicture: "the picture isn't there, or isn't for you to see",
+    fileRefusals: {
+        404: "this map keeps no photos and files: ask the administrator", 413: "the file is too large: 20 MiB at the most",
+        415: "it is no picture (JPEG, PNG, GIF, WebP) and no PDF", 502: "this map keeps no photos and files: ask the administrator",
+        507: "there is no room for files: tell the administrator",
+    },
     text: "text", number: "number", yesNo: "yes/no", yes: "yes", no: "no",
     noInteger: (what, shown) => `${what}: "${shown}" is no whole number`, twice: name => `two tags have the name ${name}`,
 
@@ -145,6 +151,12 @@ const DE = {
 
     layer: "Ebene", firstZoom: "erste Zoomstufe", lastZoom: "letzte Zoomstufe", shape: "Form", tag: "Merkmal", value: "Wert",
     kindOfValue: "Art des Werts", tagNamed: name => `Merkmal ${name}`, addTag: "Merkmal hinzufügen", removeTag: name => `Das Merkmal ${name} entfernen`,
+    addFile: "Foto oder Datei …", openFile: name => `${name} öffnen`, noPicture: "das Bild ist nicht da, oder nicht für dich zu sehen",
+    fileRefusals: {
+        404: "diese Karte behält keine Fotos und Dateien: die Verwaltung fragen", 413: "die Datei ist zu groß: höchstens 20 MiB",
+        415: "es ist kein Bild (JPEG, PNG, GIF, WebP) und kein PDF", 502: "diese Karte behält keine Fotos und Dateien: die Verwaltung fragen",
+        507: "für Dateien ist kein Platz: der Verwaltung sagen",
+    },
     text: "Text", number: "Zahl", yesNo: "ja/nein", yes: "ja", no: "nein",
     noInteger: (what, shown) => `${what}: „${shown}“ ist keine ganze Zahl`, twice: name => `zwei Merkmale haben den Namen ${name}`,
 

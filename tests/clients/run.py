@@ -15,6 +15,8 @@ import sys
 import tempfile
 
 from admin import admin
+from attachments import attachments, page_photos
+from attachments import by_qgis as files_qgis
 from batches import batches
 from checkins import checkins
 from conditions import tags
@@ -90,6 +92,7 @@ def main():
         "page-hands": page_hands,
         "page-files": page_files,
         "page-print": page_print,
+        "page-photos": page_photos,
         "desktop": desktop,
         "checkins": checkins,
         "lost-replies": lost_replies,
@@ -109,6 +112,8 @@ def main():
         "wfs-qgis": wfs_qgis,
         "schema": schema,
         "ogc": ogc,
+        "files": attachments,
+        "files-qgis": files_qgis,
         "wmts": wmts,
         "wmts-qgis": by_qgis,
         "standards": standards,

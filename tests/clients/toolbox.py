@@ -13,7 +13,7 @@ from stand import EXAMPLES, TOP, VTMAP, Nginx, Server, curl, feature
 sys.path.append(TOP)
 from vtmap.client.client import Client  # noqa: E402
 
-NAMES = ["try", "import", "update", "checkout", "checkin", "wfs", "wmts", "schema", "save", "load", "publish", "join", "watch", "maps", "replica", "takeover",
+NAMES = ["try", "import", "update", "checkout", "checkin", "wfs", "wmts", "files", "schema", "save", "load", "publish", "join", "watch", "maps", "replica", "takeover",
          "delete-layer", "qgis", "follow", "log", "undo", "draw"]
 OLD = {
     "import_features.py": "vtmap import",

@@ -54,7 +54,10 @@ ASKED = [
     ((), "/.git/config", None),
     (("-X", "OPTIONS"), "/map/0/0/0.mvt", None),
     (("-X", "OPTIONS"), "/map.pmtiles", None),
+    ((), "/files/none.jpg", None),
     # What is refused.
+    (("-X", "POST", "-H", "Origin: http://other.example"), "/files/", FEATURE),
+    (("-X", "PUT", "-H", "Origin: http://other.example"), "/files/put/a.jpg", FEATURE),
     (("-X", "POST", "-H", TEXT), "/edits", BATCH),
     (("-X", "POST", "-H", TEXT), "/admin/edits", CHECKED),
     (("-X", "POST", "-H", TEXT), "/admin/edits/at/9", CHECKED),

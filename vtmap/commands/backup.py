@@ -9,6 +9,7 @@ from ..client.edits import NOTHING, delete, encoded, put
 from ..ending import regular
 from ..faults import Refused, Stopped
 from ..files.archive_ids import ids_in
+from ..files.attachments import PATH, Attachments, Use, saved as copied
 from ..files.disk_file import moment_of
 from ..geometry.geojson import feature_of, geojson_of
 from ..geometry.wholes import right_handed, wholes_of
@@ -41,6 +42,10 @@ edited meanwhile are saved as they are when it reads them. Of a server without i
 rings have the directions that GeoJSON asks for. Such a file is no backup: `vtmap load` refuses it, and `vtmap import` puts it into a map.
 Without --wholes each ring is saved in the direction that it has in the map, so that `vtmap load` puts back the same.
 
+--files FOLDER also copies the photos and files of features, which `vtmap wfs --files FOLDER` keeps, into the folder `files`
+beside FILE: those that aren't there yet, since none ever changes. It names files that features name and
+the folder lacks, and ends with 1 if one is damaged; all else is saved then.
+
 FILE is as it was until all features are there; what was got by then is in FILE.part.""",
     "load": """Puts the features of a file that `vtmap save` wrote back into a map.
 
@@ -49,7 +54,8 @@ FILE is as it was until all features are there; what was got by then is in FILE.
 It replaces nothing of a map that has other features of these ids, unless --overwrite says so. --exactly makes the map that of the file: it
 also deletes what the map has and the file doesn't, after it has said how much of which layers that is; more than 20 deletions, if they are
 more than half of the map, are taken for a mistake, and then nothing is changed without --delete-many. With --publish it frees the journal by a
-publication whenever it is full; it puts up to 64 features in a request, and with --no-batches one.""",
+publication whenever it is full; it puts up to 64 features in a request, and with --no-batches one. --files FOLDER first
+copies the files that the features name from the folder `files` beside FILE into FOLDER, those that aren't there.""",
 }
 START, END = '{"type":"FeatureCollection","features":[', "\n]}\n"
 START_OF_WHOLES = '{"type":"FeatureCollection","wholes":true,"features":['
@@ -109,17 +115,47 @@ def written(path, features, start):
     return saved
 
 
+def files_beside(path):
+    """The folder of photos and files beside a file of features."""
+    return Attachments(os.path.join(os.path.dirname(os.path.abspath(path)), PATH.rstrip("/")))
+
+
+def save_files(words, use):
+    """Copies the files of a folder, and says which aren't there that features name. Returns whether none is damaged."""
+    kept, beside = Attachments(words.files), files_beside(words.file)
+    done, there, damaged = copied(kept, beside)
+    lost = [name for name in sorted(use.named) if not kept.has(name)]
+    print(f"{done} files saved, {there} were there already")
+    for name in damaged:
+        print(f"damaged, and not saved: {kept.path(name)}")
+    for name in lost:
+        number, tag = use.named[name][0]
+        print(f"missing: {PATH}{name}, which feature {number} names ({shown(tag)})" + (": an earlier backup has it" if beside.has(name) else ""))
+    return not damaged
+
+
+def load_files(words, rows):
+    """Copies the files that features name back into a folder."""
+    kept, beside = Attachments(words.files), files_beside(words.file)
+    wanted = sorted(Use.of(rows).named)
+    missing = [name for name in wanted if not kept.has(name)]
+    lost = [name for name in missing if not (beside.has(name) and beside.copy_to(kept, name))]
+    print(f"{len(missing) - len(lost)} files put, {len(wanted) - len(missing)} were there already" + (f", {len(lost)} aren't in the backup" if lost else ""))
+    return not lost
+
+
 def save(words):
     """Saves features in the file."""
     moment = moment_of(words.disk) if words.disk else None
     found = moment.features.items() if moment else wanted(words, Client(words.url))
-    missing = []
+    missing, use = [], Use({})
 
     def there():
         for number, feature in found:
             if feature is None:
                 missing.append(number)
             else:
+                use.add(number, feature)
                 yield number, feature
 
     features = ((whole.number, right_handed(whole.feature)) for whole in wholes_of(there())) if words.wholes else there()
@@ -129,7 +165,7 @@ def save(words):
     print(f"{saved} features saved{of_moment}{of_ids}")
     if moment and moment.passed:
         print(f"note: reading began again {moment.passed} times, since a publication passed")
-    return 0
+    return 0 if words.files is None or save_files(words, use) else 1
 
 
 def saved_in(path):
@@ -173,6 +209,7 @@ def load(words):
     # Of an id that the file has twice, the last feature counts.
     rows = list(dict(saved_in(words.file)).items())
     client = Client(words.url, words.publish, 1 if words.no_batches else MOST_CHANGES)
+    are_there = words.files is None or load_files(words, rows)
     deletions = []
     if client.status() is None:
         if words.exactly:
@@ -189,12 +226,13 @@ def load(words):
     same = len(rows) - len(changes)
     deleted = f", {len(deletions)} deleted" if words.exactly else ""
     print(f"{len(changes)} features put{deleted}" + (f", {same} were there already" if same else ""))
-    return 0
+    return 0 if are_there else 1
 
 
 def options(parser, name):
     """The words of a command."""
     parser.add_argument("file", help="the GeoJSON file, or a file of lines of JSON if its name ends in .jsonl")
+    parser.add_argument("--files", metavar="FOLDER", help="the folder of photos and files, which are kept beside FILE in the folder `files`")
     if name == "save":
         source = parser.add_mutually_exclusive_group()
         source.add_argument("--disk", metavar="FILE", help="read this disk file, which may be served meanwhile")

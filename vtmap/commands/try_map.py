@@ -224,6 +224,7 @@ class Try:
         threading.Thread(target=self.front.serve_forever, daemon=True).start()
         link = self.fill() if self.town else self.address() + "/pages/"
         state = ["--state", self.path("wfs.state"), "--log", self.path("edits.log"), "--behind-nginx", "--schema", self.path("schema.json")]
+        state += ["--files", self.path("files")]
         line, environment = command_of(["wfs", "--port", f"{gateway}", *state, "--url", f"http://{HERE}:{port}"])
         self.children.start("wfs", line, environment)
         if not self.children.waits_for("wfs", "/wfs"):

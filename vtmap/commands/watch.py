@@ -4,6 +4,7 @@ import html
 import json
 import os
 import re
+import shutil
 import time
 
 from ..alive import ASKED
@@ -12,6 +13,7 @@ from ..client.followers import NUMBER, Log
 from ..client.refusals import STATUSES, WORDS, told
 from ..ending import regular, replaced
 from ..faults import Fault, NoAnswer
+from ..files.attachments import LEAST_FREE, PATH, Attachments
 from ..limits import MOST_ENTRIES, SECTOR
 
 DAY = 24 * 3600
@@ -33,7 +35,8 @@ entries as one may have, a publication that was left under way, a failed disk, a
 seen, for the next look: whether the journal fills before the next publication. --record FILE is what `vtmap publish --record` keeps:
 whether the last publication was refused, and when it was. --backups FOLDER is where vtserve-backup.service saves the map
 (map-2026-11-29.jsonl): whether the newest backup is older than --backup-hours. --standby URL is a server that `vtmap follow` keeps as this
-one, and --log FILE a log that it writes: whether they lack edits. --gateway URL is a `vtmap wfs`: whether it answers. --metrics FILE is written
+one, and --log FILE a log that it writes: whether they lack edits. --gateway URL is a `vtmap wfs`: whether it answers. --files FOLDER is
+the folder of its photos and files: whether its disk has room, and with --backups whether they are in the backups. --metrics FILE is written
 for Prometheus, by the textfile collector of node_exporter."""}
 # How docs/vtserve-backup.service names its files. A backup that isn't finished has another name.
 BACKUP = "map-*.jsonl"
@@ -282,6 +285,25 @@ def gateways(urls):
             yield LEVELS.get(status, NOW), f"the gateway {client.address}: {status}: {text}"
 
 
+def kept_files(folder, backups, now, hours):
+    """Whether photos and files of features can be kept, and are in the backups."""
+    files, there = Attachments(folder), Attachments(os.path.join(backups or folder, PATH.rstrip("/")))
+    try:
+        names, saved = list(files.names()), list(there.names()) if backups else []
+        free = shutil.disk_usage(folder).free if os.path.isdir(folder) else None
+    except OSError as fault:
+        yield NOW, f"the photos and files can't be read: {fault}"
+        return
+    if free is not None and free < 2 * LEAST_FREE:
+        yield (NOW if free < LEAST_FREE else SOON), f"the disk of {folder} has {free >> 20:,} MB left: below {LEAST_FREE >> 20} no photo and no file is taken"
+    gone, new = set(saved) - set(names), set(names) - set(saved) if backups else set()
+    if gone:
+        yield NOW, f"{len(gone):,} photos and files of {there.folder} aren't in {folder} any more, as {min(gone)}: copy them back (docs/DEPLOYING.md)"
+    old = [name for name in sorted(new) if os.stat(files.path(name)).st_mtime < now - hours * 3600]
+    if old:
+        yield SOON, f"{len(old):,} photos and files of {folder} aren't in {there.folder}, as {old[0]}: vtmap save --files {folder}"
+
+
 def metrics(path, status, result, name_of_map=None):
     """Writes the metrics; without a status those that are known. Where a machine has several maps, each has the name of its map as a label."""
     label = f'{{map="{name_of_map}"}}' if name_of_map else ""
@@ -314,6 +336,7 @@ def tasks(words, client, now):
     """The status, or None, and what is to be done, each with its level."""
     found = list(recorded(words.record, now, words.every)) if words.record else []
     found += backed_up(words.backups, now, words.backup_hours) if words.backups else []
+    found += kept_files(words.files, words.backups, now, words.backup_hours) if words.files else []
     try:
         status = status_of(client)
         status["entries"] = entries(status, client)
@@ -336,6 +359,7 @@ def options(parser, _):
     parser.add_argument("--record", metavar="FILE", help="what `vtmap publish --record` keeps")
     parser.add_argument("--backups", metavar="FOLDER", help="where backups of the map are, map-*.jsonl")
     parser.add_argument("--backup-hours", type=float, default=26, metavar="HOURS", help="how old the newest of them may be (26)")
+    parser.add_argument("--files", metavar="FOLDER", help="the folder of photos and files of `vtmap wfs --files`: its disk, and whether backups have them")
     parser.add_argument("--standby", metavar="URL", action="append", default=[], help="a standby that is to have each edit; may be given several times")
     parser.add_argument("--log", metavar="FILE", action="append", default=[], help="a log of `vtmap follow`; may be given several times")
     parser.add_argument("--gateway", metavar="URL", action="append", default=[], help="a `vtmap wfs` that is to answer; may be given several times")

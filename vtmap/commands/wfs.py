@@ -7,6 +7,7 @@ import time
 from .. import alive
 from ..client.feed import Leader
 from ..faults import NoAnswer, Stopped
+from ..files.attachments import Attachments
 from ..files.checkout_file import KINDS
 from ..files.map_schema import SchemaFile
 from ..files.save_log import SaveLog
@@ -34,7 +35,8 @@ is saved, and QGIS shows which feature that is. What a save needs is noted in th
 short is undone by the next start; the file also has what each QGIS has saved, so that a restart isn't noticed. Without it both end with the
 process. --log FILE appends who has saved what, for `vtmap log --nginx FILE`. Behind nginx --behind-nginx takes the name or the address of whoever
 saves from nginx; without it that is 127.0.0.1. --schema FILE names the layers, fields, choices and zooms that the map is to have: what is saved has
-to fit them, and `vtmap schema add` adds to it.
+to fit them, and `vtmap schema add` adds to it. --files FOLDER takes photos and files (JPEG, PNG, GIF, WebP, PDF, up to 20 MiB) at /files/,
+which tags name as files/HASH.jpg; `vtmap files` lists those that no feature names.
 
 The server needs --admin. Large shapes are cut, for which GDAL's Python module is needed. It ends with 0 at SIGTERM, once a save that is under way
 is made. If systemd waits for it (WatchdogSec), it asks itself again and again whether it answers, and says so."""}
@@ -47,6 +49,7 @@ def options(parser, _):
     parser.add_argument("--state", metavar="FILE", help="keep in this file what is being saved, and what each GIS has saved")
     parser.add_argument("--log", metavar="FILE", help="append who has saved what to this file, as `vtmap log --nginx` reads it")
     parser.add_argument("--schema", metavar="FILE", help="the layers and fields that the map is to have (docs/FORMATS.md); read anew when it changes")
+    parser.add_argument("--files", metavar="FOLDER", help="keep photos and files of features in this folder")
     parser.add_argument("--layer", type=layer_of, action="append", default=[], metavar="LAYER:KIND[:TAG=FORM,..]",
                         help="a layer that the map doesn't have yet, or further tags of one: KIND is points, lines or areas, FORM text, integer or boolean; "
                         "may be repeated")
@@ -90,7 +93,8 @@ def work(words):
     live = LiveMap(Leader(words.url, words.publish), dict(words.layer), log, SchemaFile(words.schema))
     wfs = Wfs(live, sessions, Saves(live, log, words.log))
     api = OgcApi(live, wfs.look, Systems(words.crs))
-    server = listener(words.port, wfs, api, is_behind_nginx=words.behind_nginx, is_public=words.cors)
+    files = Attachments(words.files) if words.files else None
+    server = listener(words.port, wfs, api, files=files, is_behind_nginx=words.behind_nginx, is_public=words.cors)
     begin(wfs)
     signal.signal(signal.SIGTERM, lambda *_: sys.exit(0))
     alive.tell(words.port)

@@ -18,12 +18,13 @@ from ..limits import MOST_BODY as MOST_OF_MAP
 
 # What of a request vtserve gets, and the gateway; and what of a reply a client gets.
 FIELDS_OF_MAP = ("content-type", "range", "if-range", "if-match", "if-none-match")
-FIELDS_OF_GATEWAY = ("content-type", "accept-encoding")
-FIELDS_OF_REPLY = ("content-type", "content-length", "content-range", "content-encoding", "accept-ranges", "etag", "allow")
+FIELDS_OF_GATEWAY = ("content-type", "accept-encoding", "if-none-match")
+FIELDS_OF_REPLY = ("content-type", "content-length", "content-range", "content-encoding", "accept-ranges", "etag", "allow", "location",
+                   "content-disposition", "content-security-policy", "x-content-type-options", "cross-origin-resource-policy")
 # Whose a path is. Edits are JSON: a page of another origin can make a browser send text or a form, but for JSON the browser asks first.
 PUBLIC = re.compile(r"/map/.*|/map\.json|/map\.pmtiles")
 OF_MAP = re.compile(r"/map/.*|/map\.pmtiles|/features/.*|/edits|/publish(/.*)?|/admin/.*")
-OF_GATEWAY = re.compile(r"/(wfs|ogc)(/.*)?")
+OF_GATEWAY = re.compile(r"/(wfs|ogc|files)(/.*)?")
 EDITS = re.compile(r"/edits|/admin/edits(/at/[0-9]+)?")
 PAGE, START = re.compile(r"/pages/([A-Za-z0-9_][A-Za-z0-9_.-]*)?"), re.compile(r"/(pages)?")
 # Where the page finds the schema of the map, and where the gateway has it.

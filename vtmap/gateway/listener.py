@@ -15,7 +15,8 @@ from ..faults import Fault, NoAnswer, Refused, Stopped
 from ..files import map_schema
 from ..shown import shown, shown_lines
 from ..systems import is_windows
-from . import wfs_texts
+from . import file_paths, wfs_texts
+from .file_paths import FILES
 from .ogc_api import Unknown
 from .ogc_texts import JSON
 
@@ -40,13 +41,13 @@ IDLE, PAUSE, SLOWEST, LINGER = 300, 30, 64 * 2 ** 10, 2
 
 
 class Handler(BaseHTTPRequestHandler):
-    """One connection. `wfs` and `ogc` answer. `is_behind_nginx`: whether nginx says who sends a request. `is_public`: whether pages of other origins may
-    read."""
+    """One connection. `wfs` and `ogc` answer, `files` are kept. `is_behind_nginx`: whether nginx says who sends a request. `is_public`: whether pages of
+    other origins may read."""
 
     protocol_version = "HTTP/1.1"
     disable_nagle_algorithm = True
     timeout = IDLE
-    wfs = ogc = None
+    wfs = ogc = files = None
     is_behind_nginx = is_public = False
 
     def log_message(self, *words):
@@ -88,6 +89,9 @@ class Handler(BaseHTTPRequestHandler):
         if path in SCHEMAS:
             self.answer_schema()
             return
+        if path.startswith(FILES):
+            file_paths.answer(self, self.files, path, SAFETY)
+            return
         if path == OGC or path.startswith(OGC + "/"):
             self.answer_ogc(path.removeprefix(OGC), given)
             return
@@ -104,6 +108,9 @@ class Handler(BaseHTTPRequestHandler):
     def do_POST(self):
         """Makes a Transaction, or adds to the schema."""
         path, _, query = self.path.partition("?")
+        if path == FILES:
+            file_paths.take(self, self.files, path)
+            return
         session, length, is_meant = session_in(path), self.length(), ("delete-many", "true") in urllib.parse.parse_qsl(query)
         most, kinds = (map_schema.MOST_BYTES, KINDS_OF_JSON) if path == SCHEMA else (MOST_BODY, KINDS_OF_XML)
         if is_read_only(path):
@@ -140,6 +147,7 @@ class Handler(BaseHTTPRequestHandler):
 
     def transact(self, session, body, is_meant):
         """Makes a Transaction, or answers a request by XML that reads."""
+        body = body if self.files is None else file_paths.by_paths(body, self.files)
         self.answer_wfs(wfs_texts.V1, "OperationProcessingFailed", lambda: self.wfs.posted(session, body, self.address(WFS), self.person(), is_meant))
 
     # ---- the schema
@@ -220,6 +228,7 @@ class Handler(BaseHTTPRequestHandler):
             text = wfs_texts.report(version, code, "the request is nested too deep")
         except Exception as fault:
             text = wfs_texts.report(version, "NoApplicableCode", broken(fault))
+        text = text if self.files is None else file_paths.by_addresses(text, self.address("/"))
         self.reply(200, text.encode(), XML)
 
     def answer_ogc(self, path, given):
@@ -255,12 +264,22 @@ class Handler(BaseHTTPRequestHandler):
     def not_allowed(self):
         """Refuses a method that changes something where nothing is changed so."""
         path = self.path.partition("?")[0]
-        if is_read_only(path) or path == SCHEMA or session_in(path) is not None:
+        if path.startswith(FILES):
+            self.refuse(405, "the method isn't taken here", [("Allow", f"{READ}, POST, PUT")])
+        elif is_read_only(path) or path == SCHEMA or session_in(path) is not None:
             self.refuse(405, "the method isn't taken here", [("Allow", READ if is_read_only(path) else f"{READ}, POST"), *self.readable()])
         else:
             self.refuse(404, "NotFound")
 
-    do_PUT = do_DELETE = do_PATCH = not_allowed
+    do_DELETE = do_PATCH = not_allowed
+
+    def do_PUT(self):
+        """Keeps a file under a name of its sender."""
+        path = self.path.partition("?")[0]
+        if path.startswith(file_paths.OF_GIVEN):
+            file_paths.take(self, self.files, path)
+        else:
+            self.not_allowed()
 
     def reply(self, status, data, kind, more=()):
         """Sends a reply. `more`: further fields of it."""
@@ -272,16 +291,29 @@ class Handler(BaseHTTPRequestHandler):
         fields += [("Content-Encoding", "gzip")] if is_zipped else []
         self.write(status, data, fields)
 
+    def head_of(self, status, fields):
+        """The head of a reply with these fields."""
+        fields = [*fields, ("Connection", "close")] if self.close_connection else fields
+        return "\r\n".join([f"HTTP/1.1 {status} {http.HTTPStatus(status).phrase}", *(f"{name}: {value}" for name, value in fields), "", ""]).encode()
+
     def write(self, status, data, fields):
         """Writes a reply with these fields."""
-        fields = [*fields, ("Connection", "close")] if self.close_connection else fields
-        head = "\r\n".join([f"HTTP/1.1 {status} {http.HTTPStatus(status).phrase}", *(f"{name}: {value}" for name, value in fields), "", ""])
         try:
             # The time of all of it.
             self.connection.settimeout(PAUSE + len(data) / SLOWEST)
-            self.connection.sendall(head.encode() + (data if self.command != "HEAD" else b""))
+            self.connection.sendall(self.head_of(status, fields) + (data if self.command != "HEAD" else b""))
         except OSError:
             # A GIS no longer waits once somebody has moved the map on.
+            self.close_connection = True
+
+    def write_file(self, status, file, length, fields):
+        """Writes a reply whose content is that of an open file."""
+        try:
+            self.connection.settimeout(PAUSE + length / SLOWEST)
+            self.connection.sendall(self.head_of(status, fields))
+            if self.command != "HEAD":
+                self.connection.sendfile(file)
+        except OSError:
             self.close_connection = True
 
     def refuse(self, status, text, more=()):

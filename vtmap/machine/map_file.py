@@ -10,7 +10,7 @@ from ..faults import Refused, Wrong
 
 NAME, HOST = re.compile(r"[a-z][a-z0-9-]{0,30}"), re.compile(r"[a-z0-9]([a-z0-9.-]{0,252}[a-z0-9])?")
 # The first part of paths that one map has: they can't be names too.
-PATHS = ("admin", "edits", "features", "map", "ogc", "pages", "publish", "wfs", "wmts", "xyz")
+PATHS = ("admin", "edits", "features", "files", "map", "ogc", "pages", "publish", "wfs", "wmts", "xyz")
 # Each map has two ports, from these on: its server's, and its gateway's after it. That of its pictures is so far from them.
 FIRST_PORT, LAST_PORT, FAR = 8100, 65534, 10000
 ABOUT = """# The map {name}, by `vtmap maps`. Its units read this file: add variables of their commands, such as VTSERVE_PAUSE.
