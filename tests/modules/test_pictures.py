@@ -295,6 +295,10 @@ class Anew(stand.InFolder):
             with self.assertRaisesRegex(TooLarge, "it is too large"):
                 self.of(1, 0, 0)
         self.assertEqual(len(self.drawn), 1)
+        now = time.monotonic()
+        with mock.patch("vtmap.pictures.tiles.time.monotonic", return_value=now + 1000):
+            self.server.content = WORKED
+            self.assertEqual(self.of(1, 0, 0).data, b"0")
 
     def test_those_that_nobody_asks_for_go_first(self):
         with mock.patch("vtmap.pictures.tiles.MOST_KEPT", 3 * 504):

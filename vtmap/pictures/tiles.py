@@ -4,6 +4,7 @@ from __future__ import annotations
 import hashlib
 import http.client
 import json
+import math
 import os
 import queue
 import threading
@@ -22,6 +23,8 @@ LAST_ZOOM, SIDE, MOST_ENLARGED = 22, 256, 12
 # The most bytes of a tile that is drawn, of pictures that are kept, the seconds for which layers and zooms of the map are, those that a reply of the
 # server may take, and how many replies are waited for at a time.
 MOST_TILE, MOST_KEPT, METADATA, LONGEST, AT_ONCE = 8 << 20, 128 << 20, 10, 60, 8
+# The seconds for which what was too large isn't tried again: on a machine that did much else it may only have been late.
+REST = 600
 # What pictures of before are told apart by from those of another version of this program.
 DRAWING = "1"
 
@@ -44,12 +47,13 @@ class Wanted(NamedTuple):
 
 
 class Kept(NamedTuple):
-    """Pictures that are kept, or why there are none, with the look and the tag of the tile that they are of."""
+    """Pictures that are kept, with the look and the tag of the tile that they are of; or why there are none, and until when that counts."""
 
     look: str
     tag: str
     pictures: tuple[bytes, ...]
-    fault: str | None
+    fault: str | None = None
+    until: float = math.inf
 
 
 class Source:
@@ -194,7 +198,7 @@ class Tiles:
                     break
             event.wait()
         try:
-            before = before if before and before.look == look else None
+            before = before if before and before.look == look and time.monotonic() < before.until else None
             found = self.made(client, wanted, before, look, metadata, given)
             if found is not before:
                 self.keep(wanted, found)
@@ -219,7 +223,7 @@ class Tiles:
         try:
             status, tag, content = self.source.ask(f"/map/{zoom}/{column}/{row}.mvt", {"If-None-Match": before.tag} if before and before.tag else {})
         except TooLarge as fault:
-            return Kept(look, "", (), str(fault))
+            return Kept(look, "", (), str(fault), time.monotonic() + REST)
         tag = tag or hashlib.sha256(content).hexdigest()
         if before and (status == 304 or tag == before.tag):
             with self.lock:
@@ -234,9 +238,9 @@ class Tiles:
         words = {"style": given, "layers": metadata.layers, "zoom": wanted.zoom, "part": part, "pieces": parts, "scale": wanted.scale,
                  "transparent": wanted.is_transparent}
         try:
-            return Kept(look, tag, tuple(self.painters.paint(client, words, content)), None)
+            return Kept(look, tag, tuple(self.painters.paint(client, words, content)))
         except TooLarge as fault:
-            return Kept(look, tag, (), str(fault))
+            return Kept(look, tag, (), str(fault), time.monotonic() + REST)
 
 
 def size_of(kept: Kept) -> int:
