@@ -133,7 +133,8 @@ class Bounds(unittest.TestCase):
         self.addCleanup(pool.end)
         self.assertEqual(len(pool.paint("a", DRAWING, WORKED)), 4)
         with self.assertRaisesRegex(TooLarge, "512 MB"):
-            pool.paint("a", {**DRAWING, "scale": 64}, area_tile(1))
+            # 12,288 x 12,288 dots of four bytes are 604 MB.
+            pool.paint("a", {**DRAWING, "scale": 24}, area_tile(1))
         self.assertEqual(len(pool.paint("a", DRAWING, WORKED)), 4)
 
     @unittest.skipUnless(HAS_CAIRO, "no python3-cairo: nothing is drawn")
