@@ -10,6 +10,7 @@ import time
 
 from gateways import Gateway
 from import_stand import has_gdal
+from pictures import has_cairo
 from stand import PROGRAM, TOP, VTMAP, Nginx, Server, curl, feature, field, free_port, status_of
 
 JSON, TEXT = "Content-Type: application/json", "Content-Type: text/plain;charset=json"
@@ -100,7 +101,7 @@ class Tried:
             if state_of(number)[1:2] == [str(self.child.pid)]:
                 with open(f"/proc/{number}/cmdline", "rb") as file:
                     words = file.read().decode().split("\0")
-                found["wfs" if "wfs" in words else "map" if "serve" in words else words[0]] = int(number)
+                found[next((name for name in ("wfs", "wmts") if name in words), "map" if "serve" in words else words[0])] = int(number)
         return found
 
     def end(self, by=signal.SIGINT):
@@ -225,6 +226,11 @@ def fronts(cases, folder):
         tag = field(curl(tried.url + "/map/0/0/0.mvt"), "etag")
         again = curl(tried.url + "/map/0/0/0.mvt", "-H", f"If-None-Match: {tag}")
         cases.show("try: a tile that a client has already", (tag is not None, status_of(again)), (True, 304))
+        if has_cairo(cases):
+            picture, document = curl(tried.url + "/xyz/0/0/0.png"), curl(tried.url + "/wmts/1.0.0/WMTSCapabilities.xml")[2].decode()
+            cases.show("try: pictures", (status_of(picture), field(picture, "content-type"), f'"{tried.url}/wmts?"' in document), (200, "image/png", True))
+            again = curl(tried.url + "/xyz/0/0/0.png", "-H", f"If-None-Match: {field(picture, 'etag')}")
+            cases.show("try: one that a client has already", status_of(again), 304)
         chunked = curl(tried.url + "/features/7", "-X", "PUT", "-H", "Transfer-Encoding: chunked", body=FEATURE)
         cases.show("try: a body without a length", status_of(chunked), 411)
         cases.show("try: a file beside the page", status_of(curl(tried.url + "/pages/..%2fREADME.md", "--path-as-is")), 404)
@@ -234,12 +240,13 @@ def fronts(cases, folder):
 def endings(cases, folder):
     """However it ends, nothing is left running."""
     words = ["--empty", "--no-browser", "--program", PROGRAM]
+    started = ["map", "wfs"] + ["wmts"] * has_cairo(cases)
     for by, status in ((signal.SIGINT, 0), (signal.SIGTERM, 0), (signal.SIGHUP, 0), (signal.SIGKILL, -9)):
         with Tried(folder, f"ends-{by}", *words) as tried:
             numbers = tried.children()
             code, lines = tried.end(by)
-            cases.show(f"try: {signal.Signals(by).name} leaves nothing", (sorted(numbers), code, run_yet(numbers.values())), (["map", "wfs"], status, []))
-    for name in ("map", "wfs"):
+            cases.show(f"try: {signal.Signals(by).name} leaves nothing", (sorted(numbers), code, run_yet(numbers.values())), (started, status, []))
+    for name in started:
         with Tried(folder, f"lost-{name}", *words) as tried:
             numbers = tried.children()
             os.kill(numbers[name], signal.SIGKILL)

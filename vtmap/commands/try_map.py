@@ -24,9 +24,10 @@ ABOUT = {"try": """Makes a map of a made-up town on this machine, and opens it i
     vtmap try
     vtmap try FOLDER --again
 
-It makes the folder (vtmap-try) with a disk of 32 MiB for the map, starts the server `vtserve` and the gateway of `vtmap wfs`, imports the town of
-examples/town.py, publishes it, and prints its address, which all commands take as --url or VTSERVE_URL. Ctrl+C ends all of it; the map stays in the
-folder, and --again goes on with it. Reached is it from this machine alone, and everybody on it may edit. For others run nginx (docs/DEPLOYING.md).
+It makes the folder (vtmap-try) with a disk of 32 MiB for the map, starts the server `vtserve`, the gateway of `vtmap wfs` and, if pycairo is
+installed, `vtmap wmts`, imports the town of examples/town.py, publishes it, and prints its address, which all commands take as --url or VTSERVE_URL.
+Ctrl+C ends all of it; the map stays in the folder, and --again goes on with it. Reached is it from this machine alone, and everybody on it may edit.
+For others run nginx (docs/DEPLOYING.md).
 
 The server is crates/vtserve/out/vtserve of a clone, or `vtserve` of the PATH, or the one that --program names. The town needs GDAL's Python module
 (Debian: `python3-gdal`); --empty begins without it."""}
@@ -216,9 +217,9 @@ class Try:
         if not self.words.again:
             self.children.run("format", [self.program, "format", self.path(DISK), "--sectors", f"{SECTORS}"])
         port = self.serve()
-        gateway = free_port()
+        gateway, pictures = free_port(), free_port() if has("cairo") or other("cairo") else 0
         try:
-            self.front = front(self.words.port, Behind(port, gateway, first_of(PAGES, "the page")))
+            self.front = front(self.words.port, Behind(port, gateway, first_of(PAGES, "the page"), pictures))
         except OSError as fault:
             raise Refused(f"port {self.words.port} of {HERE} can't be opened: {fault.strerror}") from fault
         threading.Thread(target=self.front.serve_forever, daemon=True).start()
@@ -229,6 +230,11 @@ class Try:
         self.children.start("wfs", line, environment)
         if not self.children.waits_for("wfs", "/wfs"):
             raise Ended(f"the gateway doesn't start: {last_line(self.path('wfs.log'))}")
+        if pictures:
+            style = os.path.join(first_of(PAGES, "the page"), "style.json")
+            self.children.start("wmts", *command_of(["wmts", "--port", f"{pictures}", "--style", style, "--behind-nginx", "--url", f"http://{HERE}:{port}"]))
+            if not self.children.waits_for("wmts", "/wmts"):
+                raise Ended(f"what draws doesn't start: {last_line(self.path('wmts.log'))}")
         return link
 
     def serve(self) -> int:

@@ -24,7 +24,7 @@ FIELDS_OF_REPLY = ("content-type", "content-length", "content-range", "content-e
 # Whose a path is. Edits are JSON: a page of another origin can make a browser send text or a form, but for JSON the browser asks first.
 PUBLIC = re.compile(r"/map/.*|/map\.json|/map\.pmtiles")
 OF_MAP = re.compile(r"/map/.*|/map\.pmtiles|/features/.*|/edits|/publish(/.*)?|/admin/.*")
-OF_GATEWAY = re.compile(r"/(wfs|ogc|files)(/.*)?")
+OF_GATEWAY, OF_PICTURES = re.compile(r"/(wfs|ogc|files)(/.*)?"), re.compile(r"/wmts(/.*)?|/xyz/.*")
 EDITS = re.compile(r"/edits|/admin/edits(/at/[0-9]+)?")
 PAGE, START = re.compile(r"/pages/([A-Za-z0-9_][A-Za-z0-9_.-]*)?"), re.compile(r"/(pages)?")
 # Where the page finds the schema of the map, and where the gateway has it.
@@ -48,11 +48,12 @@ CHUNK, LONGEST = 1 << 16, 600
 
 
 class Behind(NamedTuple):
-    """What is behind a front: the ports of the server and of the gateway, and the folder of the page."""
+    """What is behind a front: the ports of the server and of the gateway, the folder of the page, and the port of pictures, 0 without them."""
 
     map: int
     gateway: int
     pages: str
+    pictures: int = 0
 
 
 class FrontHandler(Handler):
@@ -79,8 +80,9 @@ class FrontHandler(Handler):
         elif OF_MAP.fullmatch(path):
             self.pass_on(self.behind.map, self.fields(FIELDS_OF_MAP), MOST_OF_MAP, OF_ALL if PUBLIC.fullmatch(path) else [])
         elif OF_GATEWAY.fullmatch(path):
-            about = {"Host": HERE, "X-Forwarded-Host": self.headers.get("host", HERE), "X-Forwarded-Proto": "http", "X-Real-IP": self.client_address[0]}
-            self.pass_on(self.behind.gateway, {**self.fields(FIELDS_OF_GATEWAY), **about}, MOST_BODY, [])
+            self.pass_on(self.behind.gateway, self.fields_of_gateway(), MOST_BODY, [])
+        elif OF_PICTURES.fullmatch(path) and self.behind.pictures:
+            self.pass_on(self.behind.pictures, self.fields_of_gateway(), 0, OF_ALL)
         else:
             self.refuse(404, "NotFound")
 
@@ -89,6 +91,11 @@ class FrontHandler(Handler):
     def fields(self, names: tuple[str, ...]) -> dict[str, str]:
         """Some of the fields of the request."""
         return {name: self.headers[name] for name in names if name in self.headers}
+
+    def fields_of_gateway(self) -> dict[str, str]:
+        """The fields that the gateway gets, with the address that the client has asked."""
+        about = {"Host": HERE, "X-Forwarded-Host": self.headers.get("host", HERE), "X-Forwarded-Proto": "http", "X-Real-IP": self.client_address[0]}
+        return {**self.fields(FIELDS_OF_GATEWAY), **about}
 
     def length(self) -> int | None:
         """The length of the body. Without a length there is no body; None if it is said in another way, or twice."""
