@@ -168,9 +168,9 @@ def behind_nginx(cases, folder, server, gateway):
         cases.show("nginx: larger than 20 MiB", status_of(sent(front.url + "/files/", JPEG + b"\0" * (20 * 2 ** 20))), 413)
         cases.show("nginx: HTML that says it is a picture", status_of(sent(front.url + "/files/", HOSTILE["HTML"], "-H", "Content-Type: image/png")), 415)
     shutil.rmtree(front.folder)
-    # What docs/DEPLOYING.md says for files that everybody sees.
-    public = ("client_max_body_size 20m;", "client_max_body_size 20m; allow all; limit_except GET { allow 127.0.0.1; deny all; }")
-    with Nginx(nginx, folder, server, [("127.0.0.1:8090", f"127.0.0.1:{gateway.port}"), public]) as front:
+    # With the two lines for files that everybody sees.
+    public = [("# allow all;\n            # limit_except", "allow all;\n            limit_except")]
+    with Nginx(nginx, folder, server, [("127.0.0.1:8090", f"127.0.0.1:{gateway.port}"), *public]) as front:
         others = [status_of(curl(f"{front.url}/{path}", *away)), status_of(sent(front.url + "/files/", large, *away)), status_of(sent(front.url + "/files/", large))]
         cases.show("nginx: files that everybody sees, and few send", others, [200, 403, 201])
     os.unlink(os.path.join(folder, "kept", os.path.basename(path)))
