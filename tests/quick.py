@@ -66,6 +66,7 @@ PARTS = [
     client("wfs"),
     client("import"),
     client("trail"),
+    client("short-files"),
     client("batches"),
     page_of("docs/DEPLOYING.md"),
     page_of("docs/OFFICE.md"),

@@ -1,4 +1,6 @@
 """How far a command is that sends many changes, and a server that makes the tiles of a publication."""
+from __future__ import annotations
+
 import threading
 import time
 from collections.abc import Iterable, Iterator
@@ -7,8 +9,9 @@ from typing import Any
 from .faults import Fault
 
 EACH = 1000
-# How many seconds a publication is waited for before it is asked how far it is, and then between two such questions.
-PAUSE = 2
+# How many seconds a publication is waited for before it is asked how far it is, and then between two such questions; and between two lines about
+# many rows. Fewer rows than `EACH` are told of only if they take long.
+PAUSE, LONG = 2, 10
 
 
 def with_progress(changes: Iterable) -> Iterator:
@@ -18,6 +21,18 @@ def with_progress(changes: Iterable) -> Iterator:
         yield change
         if done % EACH == 0:
             print(f"        {done:,} sent so far, {done / max(time.monotonic() - began, 0.001):,.0f} a second", flush=True)
+
+
+def counted(rows: Iterable, what: str, total: int | None = None) -> Iterator:
+    """Passes rows on, and prints every two seconds how many there were, if they are many or take long. `total`: how many there will be."""
+    began = told = time.monotonic()
+    of = f" of {total:,}" if total else ""
+    for done, row in enumerate(rows, 1):
+        yield row
+        now = time.monotonic()
+        if now - told >= PAUSE and (done >= EACH or now - began >= LONG):
+            told = now
+            print(f"        {done:,}{of} {what}", flush=True)
 
 
 class Tiles:

@@ -222,7 +222,7 @@ def without_batches(cases, folder):
         server.shutdown()
         notes = sum(line.startswith("note: the server, or a proxy in front of it, has no /edits") for line in lines)
         cases.show("batches: an older server", (status, notes, lines[-1]), (0, 1, "70 taken, 0 refused"))
-        asked = ["GET /admin/status", "GET /admin/status", "POST /edits", "POST /edits", *[f"PUT /features/{number}" for number in range(1, 71)]]
+        asked = ["GET /admin/status", "GET /pages/schema.json", "GET /admin/status", "POST /edits", "POST /edits", *[f"PUT /features/{number}" for number in range(1, 71)]]
         asked += ["GET /admin/status", "GET /pages/"]
         cases.show("batches: what it was asked", server.asked, asked)
     disk = os.path.join(folder, "version_1")

@@ -105,7 +105,7 @@ def tables(cases, folder, server):
     with open(path, "w", encoding="utf-8") as file:
         file.write("name;RW;HW\na;402.861,31;6.040.189,51\nb;402861,31;6040189,51\nc;;\n")
     code, lines = imported(path, server.url, "--x", "RW", "--y", "HW", "--crs", "EPSG:25832", "--first", "900")
-    refused = "feature 900 refused: not sent: its RW is '402.861,31' and its HW is '6.040.189,51': two numbers are needed"
+    refused = "feature 900 (row 1) refused: not sent: its RW is '402.861,31' and its HW is '6.040.189,51': two numbers are needed"
     found = code, any(line.startswith(refused) for line in lines), names(server, "thousands")
     cases.show("encodings: a number with separators of thousands is refused, and one without a place is none", found, (1, True, ["b"]))
 

@@ -86,7 +86,7 @@ def kinds(cases, folder, server):
     status, lines = imported(path, server.url, "--layer", "k", "--maxzoom", "4", "--first", "1301")
     never = "not sent: it has no extent and is never shown: its area is 0, or all points of its line are one place"
     long = "feature 1307 refused: E7 Value (a text of a tag has over 1,024 bytes, or a number is outside of -2^63 to 2^64 - 1)"
-    refused = [f"feature 1304 refused: {never}", f"feature 1305 refused: {never}", long]
+    refused = [f"feature 1304 (row 4) refused: {never}", f"feature 1305 (row 5) refused: {never}", long]
     cases.show("import: what is never shown, and what is too long", (status, [line for line in lines if " refused: " in line]), (1, refused))
     notes = [
         "note: the field list is dropped: a list is no value of a tag: 1 feature",

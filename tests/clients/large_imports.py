@@ -71,7 +71,7 @@ def large(cases, folder):
         status, lines = imported(written(folder, "line.geojson", rows[2:3]), server.url, "--layer", "area", "--minzoom", "6", "--no-split", "--first", "2")
         estimated(cases, server, "a line that isn't cut", lines)
     with Server(folder, "narrow_area", 4096) as server:
-        words = ["--layer", "area", "--minzoom", "6", "--maxzoom", "16", "--publish"]
+        words = ["--layer", "area", "--minzoom", "6", "--maxzoom", "16", "--publish", "--cut-many"]
         status, lines = imported(path, server.url, *words)
         said = [lines[-1], "which has 1,534" in lines[-3], re.match(r"about [\d,]+ would be needed: ", lines[-2]) is not None]
         cases.show("large: what can't be published isn't begun", (status, said), (1, ["nothing was sent", True, True]))

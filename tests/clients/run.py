@@ -53,6 +53,7 @@ from running import full, kept_connections, restarts
 from schemas import schema
 from screens import screens
 from several_maps import maps
+from short_files import short_files
 from stand import Cases
 from standards import standards
 from standby import long_follow, standby
@@ -99,6 +100,7 @@ def main():
         "gdal": gdal,
         "large": large,
         "import": imports,
+        "short-files": short_files,
         "encodings": encodings,
         "round-trips": round_trips,
         "updates": updates,

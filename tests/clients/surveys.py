@@ -83,7 +83,7 @@ def gdal(cases, folder):
             json.dump(unlike, file)
         told = subprocess.run([*tool, path, "--layer", "more", "--first", "201", "--url", server.url], capture_output=True, text=True)
         lines = [line.split(":")[0] for line in told.stdout.splitlines() if said(line)]
-        wanted_lines = ["feature 202 refused", "feature 203 refused", "note", "1 taken, 2 refused"]
+        wanted_lines = ["feature 202 (row 2) refused", "feature 203 (row 3) refused", "note", "1 taken, 2 refused"]
         cases.show("import of what can't be put", (told.returncode, lines), (1, wanted_lines))
         for number, kind, name in [(301, "ESRI Shapefile", "lines.shp"), (302, "GPKG", "lines.gpkg")]:
             path = os.path.join(folder, name)

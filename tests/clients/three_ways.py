@@ -224,7 +224,7 @@ def half_a_file(cases, folder):
     with Server(folder, "half", 65536) as server:
         office = Office(folder, "half", server)
         office.imports(numbered(200))
-        said = "195 of 200 features of these layers would be deleted: is the file whole? --delete-many deletes them"
+        said = "195 of 200 features of p would be deleted: is the file whole? --delete-many deletes them"
         code, lines = office.imports(numbered(5, n1="changed"))
         cases.show("three ways: half a file deletes nothing", (code, lines[-2:], office.names() == numbered(200)), (1, [said, "nothing was sent"], True))
         cases.show("three ways: nor does it with --exactly", office.imports(numbered(5), "--exactly")[0], 1)

@@ -7,9 +7,11 @@ from ..client.edits import Change, batches, delete, encoded, sectors
 from ..files.base_file import hash_of
 from ..geometry.wholes import whole_in
 from ..limits import MOST_CHANGES, NUMBER_END
+from ..progress import counted
 from ..shown import shown
 from .deletions import are_many
 from .differences import named, told_difference
+from .plan import FEWER, MANY_PIECES
 from .sizes import Sizes
 
 # What becomes of a feature. OWN: it stays as the map has it, which somebody has changed there. CONFLICT: the file and the map were both changed.
@@ -55,7 +57,7 @@ class Changes:
         if not self.words.update:
             first, end = min(ids, default=0), max(ids, default=-1) + 1
         first_pieces = {}
-        for number, feature in client.features(first, min(end, status["last"] + 1)):
+        for number, feature in counted(client.features(first, min(end, status["last"] + 1)), "features of the map looked at"):
             whole, layer = whole_in(feature["tags"], self.words.whole), feature["layer"]
             if whole == number:
                 first_pieces[number] = layer
@@ -71,7 +73,7 @@ class Changes:
 
     def compare(self):
         """Finds out what is to be done with each id."""
-        for whole, group in groupby(self.plan.planned(), lambda planned: planned.whole):
+        for whole, group in groupby(self.plan.planned("features compared with the map"), lambda planned: planned.whole):
             self.compare_whole(whole, {planned.number: planned.body for planned in group})
         if self.words.delete_missing and not self.plan.unknown:
             self.compare_missing()
@@ -151,9 +153,8 @@ class Changes:
 
     def obstacles(self):
         """Why nothing may be sent."""
-        gone, known = sum(kinds == {GONE} for kinds in self.states.values()), sum(self.there[min(now)].layer in self.layers for now in self.pieces.values())
-        if (are_many(gone, known) or (gone and not self.plan.ids_to_put)) and not self.words.delete_many:
-            yield f"{gone:,} of {known:,} features of these layers would be deleted: is the file whole? --delete-many deletes them"
+        yield from self.deletions()
+        yield from self.cuts()
         if self.words.overwrite:
             return
         if self.taken:
@@ -162,6 +163,26 @@ class Changes:
         if self.differing:
             differing = f"{sum(self.differing.values()):,} of the ids have other features: {counted_layers(self.differing)}"
             yield f"{differing}. `vtmap update` changes them; or give another --first"
+
+    def deletions(self):
+        """Why so much isn't deleted: the file may be a part of what it was to be. Each layer is judged by itself."""
+        gone = Counter(self.there[min(self.pieces[whole])].layer for whole, kinds in self.states.items() if kinds == {GONE})
+        known = Counter(self.there[min(now)].layer for now in self.pieces.values())
+        most = self.words.delete_at_most
+        for layer, count in gone.items():
+            would = f"{count:,} of {known[layer]:,} features of {shown(layer)} would be deleted"
+            if most and not most.allows(count, known[layer]):
+                yield f"{would}, and --delete-at-most {most} allows fewer: is the file whole?"
+            elif not self.words.delete_many and ((not most and are_many(count, known[layer])) or not self.plan.ids_to_put):
+                yield f"{would}: is the file whole? --delete-many deletes them"
+
+    def cuts(self):
+        """Why features aren't cut: they would become very many, and most of what is sent."""
+        new = [number for number, kind in self.kinds.items() if kind == NEW]
+        pieces = Counter(self.wholes[number] for number in new)
+        count, wholes = sum(many for many in pieces.values() if many > 1), sum(many > 1 for many in pieces.values())
+        if count >= MANY_PIECES and count * 2 > len(new) and not self.words.cut_many:
+            yield f"{wholes:,} feature{'s' if wholes > 1 else ''} would be {count:,} pieces, each with an id of its own: {FEWER}, --cut-many puts them"
 
     def conflicts_told(self):
         """The lines about what both the file and the map have changed."""
@@ -200,8 +221,11 @@ class Changes:
 
     def sizes(self, most):
         """The sums of what is sent, and the sectors of the journal that it takes."""
+        room = self.plan.room
+        if room and room.is_new and set(self.kinds.values()) == {NEW}:
+            return room.sums, sum(map(sectors, batches(self.to_send(), most)))
         sums = Sizes()
-        for planned in self.plan.planned():
+        for planned in self.plan.planned("features measured"):
             if self.kinds[planned.number] in (NEW, CHANGED):
                 feature = json.loads(planned.body)
                 (shape,) = feature["geometry"].items()

@@ -18,7 +18,8 @@ from .changes import Changes
 from .ids import told_ranges
 from .import_options import MAXZOOM, has_ids
 from .plan import Plan
-from .sizes import disk_for
+from .sizes import Room
+from .watch import entries
 
 UNKNOWN = "the server tells nothing of itself (start it with --admin): which ids are free isn't known"
 
@@ -36,8 +37,9 @@ def plan_of(words, client, status):
     schema = schema_at(client, words.schema)
     take_zooms(words, schema)
     columns = (words.x, words.y) if words.x is not None else None
-    reader = Reader(words.file, words.source, words.crs, words.encoding, words.cut_texts, columns, words.id)
-    plan = Plan(words, reader, first, ids, schema)
+    reader = Reader(words.file, words.source, words.crs, words.encoding, words.cut_texts, columns, words.id, words.not_cut)
+    room = None if status is None or words.anyway else Room(status, words.publish, words.id is None and words.first is None)
+    plan = Plan(words, reader, first, ids, schema, room)
     plan.read()
     reader.notes.show()
     return plan
@@ -83,7 +85,7 @@ def obstacles(words, client, status, changes):
         if words.update:
             return ["update needs to know what the map has"]
         changes.compare()
-        return list(changes.plan.obstacles())
+        return [*changes.plan.obstacles(), *changes.cuts()]
     changes.look(client, status)
     found = [*changes.plan.obstacles(), *changes.obstacles()]
     # A proxy's copy of the layers may be older than the last edit: this asks for one that isn't (docs/nginx.conf).
@@ -114,20 +116,16 @@ def tell_zooms(words, client):
 def has_room(words, client, status, changes):
     """Whether the server's disk has room for the changes, as far as a client knows. Prints what is needed."""
     sums, journal = changes.sizes(client.most)
-    for line in sums.lines(journal):
+    for line in sums.lines(journal, (entries(status, client) or 0) if status else 0):
         print(line, flush=True)
     if status is None:
         return True
-    area, used, free = status["area"]["sectors"], status["area"]["used"], status["journal"]["places"] - status["journal"]["used"]
-    print(f"what was published last takes {used:,} sectors of an area, which has {area:,}", flush=True)
-    need = sums.area() + used
-    if need > area:
-        print(f"about {need:,} would be needed: move the map to a disk of {disk_for(need):,} sectors (docs/DEPLOYING.md)")
-        return words.anyway
-    if journal > free and not words.publish:
-        print(f"the journal has {free:,} of its {status['journal']['places']:,} sectors free: give --publish")
-        return words.anyway
-    return True
+    room = Room(status, words.publish, True)
+    print(f"what was published last takes {room.used:,} sectors of an area, which has {room.area:,}", flush=True)
+    fault = room.lacks(sums.area(), journal)
+    if fault:
+        print(fault)
+    return words.anyway or fault is None
 
 
 def send(client, changes):

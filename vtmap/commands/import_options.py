@@ -3,6 +3,7 @@ import codecs
 
 from ..interpreters import need
 from ..limits import GREATEST_ZOOM, NUMBER_END
+from .deletions import most
 
 # The last zoom that shows features, if --maxzoom isn't given.
 MAXZOOM = 14
@@ -12,11 +13,16 @@ become --layer; --layer-field names the attribute that is the layer's name; --so
 coordinate system (`EPSG:4326`) of a layer that names none, and of GeoJSON; --x and --y the columns of the points of a CSV file (`lon` and
 `lat`, or `x` and `y`, are found); --encoding the encoding of texts if the file doesn't say it or says a wrong one (`cp1252`).
 
+Files that came short. A zipped Shapefile is read as it is. A file that seems to have lost its end is refused (--not-cut takes it as whole): a table
+whose last line has no end, if its first one has one, or fewer fields than its head, and what GDAL says that it can't read to its end. Numbers
+beyond 64 bits, polygons whose rings cross, and features without the id that --id names are told with their row, counted from 1 without the head.
+
 Large features. The server doesn't clip, and renderers misdraw what is larger than a tile (docs/HTTP.md, "Large features"). So lines and
 polygons that some renderer would draw wrong at a zoom of theirs are cut, along the middles of the tiles of zoom --maxzoom, into as few pieces
 as are drawn right; with --split-zoom Z into pieces no larger than a tile of zoom Z. What has too many points or covers too many tiles for
-one feature is cut too. Each piece is a feature with an id, the same tags, and the tag `whole` (--whole) with the id of the first piece. With
---id the pieces after the first have its id plus a multiple of 2^40. A cut polygon's outline is put as lines of the layer LAYER-outline with
+one feature is cut too. If 2,000 pieces or more would be most of what is sent, nothing is sent (--cut-many sends them). Each piece is a feature with
+an id, the same tags, and the tag `whole` (--whole) with the id of the first piece. With --id the pieces after the first have its id plus a
+multiple of 2^40. A cut polygon's outline is put as lines of the layer LAYER-outline with
 the same tags: draw outlines from there, and from the polygons that have no `whole`, and none shows the cuts. --no-split puts features as they
 are. What stays too large is reported with its size and the zooms that will be wrong.
 
@@ -25,8 +31,9 @@ attributes are left out, lists and objects are dropped and reported. --cut-texts
 feature without geometry isn't put, and is no failure. If the map has a schema (`vtmap schema`), features of its layers have to fit it: texts that
 say a number or a boolean of its become these, a feature with another value is refused, and attributes for which it has no field stop the import.
 
-Before it sends, it prints what will be needed of journal and areas, and sends nothing that can't be published (--anyway). With --publish a
-publication by steps frees the journal whenever it is full. It stops at the first refusal that all further features would get. Up to 64
+Before it sends, it prints what will be needed of journal and areas, and sends nothing that can't be published (--anyway): of a long file that is
+known before all of it is read. It says how far it is every two seconds. With --publish a publication by steps frees the journal whenever it is
+full. It stops at the first refusal that all further features would get. Up to 64
 features are one request and one edit, which is stored whole or not at all; --no-batches sends them one by one.
 
 It prints a line for each thousand features, one for each refused one with the reason, and at the end the counts, what of the disk is used,
@@ -52,8 +59,9 @@ feature that somebody else changes meanwhile is left as it is, and reported. Wit
 
 What was changed on the map alone stays, and so does what was added there. What both have changed is a conflict: it is named, and not sent.
 --file-wins sends what the file has of conflicts, --map-wins leaves what the map has, also at the next time. --delete-missing also deletes what
-the file had then and has no more; more than 20 deletions, if they are more than half of these layers, are taken for a mistake: nothing is sent,
-unless --delete-many says so. --replace LAYER is --delete-missing for one layer. --exactly makes the layers as the file is, whatever the map has.
+the file had then and has no more. More than 20 deletions that are more than half of a layer are taken for a mistake: nothing is sent, unless
+--delete-many says so. For a job that nobody watches --delete-at-most 10% is a closer bound, or a number (25), for each layer. --replace LAYER is
+--delete-missing for one layer. --exactly makes the layers as the file is, whatever the map has.
 A feature of the file that is refused keeps its id on the map; if that isn't known, nothing is deleted. --dry-run names what would be sent.
 
 Features have ids that stay: --id FIELD is an attribute with a number (`id` is the id of a feature of GeoJSON, `FID` is GDAL's own), and with
@@ -80,9 +88,11 @@ def options(parser, name):
     parser.add_argument("--x", metavar="COLUMN", help="the column of a CSV file with the points' x, or longitudes")
     parser.add_argument("--y", metavar="COLUMN", help="the column of a CSV file with the points' y, or latitudes")
     parser.add_argument("--encoding", help="the encoding of texts, if the file doesn't say it or says a wrong one")
+    parser.add_argument("--not-cut", action="store_true", help="take a file as whole that seems to have lost its end")
     parser.add_argument("--cut-texts", action="store_true", help="cut texts of over 1,024 bytes")
     parser.add_argument("--split-zoom", type=int, metavar="Z", help="cut large features into the cells of zoom Z (as few as --maxzoom allows)")
     parser.add_argument("--no-split", action="store_true", help="cut no feature")
+    parser.add_argument("--cut-many", action="store_true", help="put 2,000 pieces of large features and more, also if they are most of what is sent")
     parser.add_argument("--no-outlines", action="store_true", help="put no outlines of cut polygons")
     parser.add_argument("--whole", default="whole", metavar="NAME", help="the tag of a piece with the id of the first piece (whole)")
     parser.add_argument("--publish", action="store_true", help="publish by steps when the journal is full")
@@ -95,7 +105,7 @@ def options(parser, name):
     if name == "update":
         options_of_update(parser)
     else:
-        parser.set_defaults(delete_missing=False, replace=None, file_wins=False, map_wins=False, exactly=False, delete_many=False, was_at=None)
+        parser.set_defaults(delete_missing=False, replace=None, file_wins=False, map_wins=False, exactly=False, delete_many=False, delete_at_most=None, was_at=None)
 
 
 def options_of_update(parser):
@@ -106,7 +116,9 @@ def options_of_update(parser):
     wins.add_argument("--file-wins", action="store_true", help="send the file's version of what both the file and the map have changed")
     wins.add_argument("--map-wins", action="store_true", help="leave the map's version of it")
     wins.add_argument("--exactly", action="store_true", help="--delete-missing, also of what was changed or added on the map alone")
-    parser.add_argument("--delete-many", action="store_true", help="--delete-missing: delete more than 20 features that are more than half of the layers")
+    many = parser.add_mutually_exclusive_group()
+    many.add_argument("--delete-many", action="store_true", help="--delete-missing: delete more than 20 features that are more than half of a layer")
+    many.add_argument("--delete-at-most", type=most, metavar="N", help="--delete-missing: send nothing if more of a layer would be deleted (10%% or 25)")
     parser.add_argument("--was-at", metavar="URL", help="the address that the map had at the last import")
 
 
@@ -128,6 +140,8 @@ def fault_of(words):
         return "--replace and --layer name two layers"
     if words.update and not has_ids(words):
         return "update needs ids that stay: give --id FIELD, or the --first of the import before"
+    if words.delete_at_most and not words.delete_missing:
+        return "--delete-at-most is about what --delete-missing, --replace or --exactly delete: give one of them"
     if words.base is not None and not has_ids(words):
         return "--base needs ids that stay: give --id FIELD, or --first"
     if words.ids is not None and words.id is None:

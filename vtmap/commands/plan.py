@@ -4,6 +4,7 @@ import tempfile
 from collections import namedtuple
 
 from ..client.edits import encoded, text_bytes
+from ..faults import Refused
 from ..files.gdal_file import Nowhere, Unreadable
 from ..files.import_rules import NOWHERE
 from ..files.map_schema import Schema, missing
@@ -12,11 +13,17 @@ from ..geometry.shapes import Unfit, bounds, count, is_shown, size, wrong_zooms
 from ..geometry.wholes import PIECE
 from ..geometry.world import WORLD, degrees
 from ..limits import NUMBER_END
+from ..progress import counted
 from ..shown import shown
 from .sizes import is_heavy
 
 # Cut features that are named each; the rest is counted.
 MOST_NAMED = 20
+# Pieces of a feature, and new ones of all, that are told before they are made.
+MANY_PIECES = 2000
+FEWER = "a smaller --maxzoom makes fewer of them, --no-split none"
+# After so many features it is looked whether the disk has room for them.
+BETWEEN = 256
 
 # A feature to put: its id, the id of the feature that it is a piece of (its own if it isn't cut), the bytes of its text, and its JSON.
 Planned = namedtuple("Planned", "number whole text body")
@@ -24,10 +31,10 @@ Planned = namedtuple("Planned", "number whole text body")
 
 class Plan:
     """The features of all layers of a reader. `first`: the first id, or what is added to the ids of the file. `ids`: an `IdFile`, or None. `schema`: what
-    the features have to fit, or None."""
+    the features have to fit, or None. `room`: what the server's disk has room for, None if that doesn't matter."""
 
-    def __init__(self, words, reader, first, ids, schema=None):
-        self.words, self.reader, self.first, self.ids = words, reader, first, ids
+    def __init__(self, words, reader, first, ids, schema=None, room=None):
+        self.words, self.reader, self.first, self.ids, self.room = words, reader, first, ids, room
         self.zooms = range(words.minzoom, words.maxzoom + 1)
         self.cutter = FeatureCutter(self.zooms, words.split_zoom, not words.no_split, not words.no_outlines, words.whole)
         self.spool = tempfile.TemporaryFile()
@@ -43,12 +50,15 @@ class Plan:
 
     def read(self):
         """Plans the features of all layers."""
-        for layer in self.reader.layers:
-            projection, types = self.reader.projection(layer), self.reader.types(layer)
-            for feature in layer:
-                made = self.add(feature, layer.GetName(), projection)
-                if made is not None and types:
-                    self.types.setdefault(made, {}).update(types)
+        total, layer = self.reader.feature_count(), None
+        for at, feature in counted(self.reader.features(), "features read", total):
+            if at is not layer:
+                layer, name, projection, types = at, at.GetName(), self.reader.projection(at), self.reader.types(at)
+            made = self.add(feature, name, projection)
+            if made is not None and types:
+                self.types.setdefault(made, {}).update(types)
+            if self.room and self.reader.read % BETWEEN == 0:
+                self.look_at_room(total)
         if self.cut > MOST_NAMED:
             print(f"and {self.cut - MOST_NAMED:,} more features are cut", flush=True)
         if self.unknown and self.words.delete_missing:
@@ -56,6 +66,12 @@ class Plan:
             print(f"note: nothing is deleted, since the map may have refused features whose ids aren't known: {what}", flush=True)
         if self.nowhere:
             print(f"note: {NOWHERE}: {self.nowhere:,} feature{'s' if self.nowhere > 1 else ''}", flush=True)
+
+    def look_at_room(self, total):
+        """Ends an import for which the disk is known to have no room, before all of a long file is read."""
+        fault = self.room.lacks_already(self.reader.read, total)
+        if fault:
+            raise Refused(fault)
 
     def add(self, feature, name, projection):
         """Plans a feature of the file's layer of this name. Returns its layer in the map, if it is to be put."""
@@ -69,6 +85,7 @@ class Plan:
             number = self.number(feature, layer) if number is None else number
             self.check(number)
             made = self.features(number, self.reader.shape(feature, projection), tags, layer)
+            self.reader.tell_shape()
         except Nowhere:
             self.nowhere += 1
             self.keep(number)
@@ -76,13 +93,18 @@ class Plan:
         except (Unfit, RuntimeError) as fault:
             self.refused += 1
             self.keep(number)
-            named = f"feature of the file {feature.GetFID()}" if number is None else f"feature {number}"
+            # Whoever gave no ids finds a feature by its row.
+            row = self.reader.at(name)
+            named = row if number is None else f"feature {number}" if self.words.id else f"feature {number} ({row})"
             print(f"{named} refused: not sent: {shown(fault)}", flush=True)
             return None
         self.layers.add(layer)
         for own, planned in made:
             self.ids_to_put.add(own)
-            self.spool.write(b"%d %d %d %s\n" % (own, number, text_bytes(planned), encoded(planned)))
+            length = text_bytes(planned)
+            self.spool.write(b"%d %d %d %s\n" % (own, number, length, encoded(planned)))
+            if self.room:
+                self.room.add(length, planned, self.zooms, own == number)
         self.next = made[-1][0] + 1
         return layer
 
@@ -149,6 +171,9 @@ class Plan:
 
     def features(self, number, shape, tags, layer):
         """The features to put for one of the file, each with its id."""
+        about = self.cutter.about(shape, MANY_PIECES)
+        if about >= MANY_PIECES:
+            print(f"feature {number} will be cut into about {about:,} pieces: {FEWER}", flush=True)
         made, crosses = self.cutter.features(number, shape, tags, layer)
         step = 1 if self.words.id is None else PIECE
         if number + step * (len(made) - 1) >= NUMBER_END:
@@ -182,10 +207,10 @@ class Plan:
         if is_heavy(shape, self.zooms):
             print(f"warning: feature {number} has {count(shape):,} points in very many tiles: publications will take long", flush=True)
 
-    def planned(self):
-        """Each feature to put."""
+    def planned(self, what=None):
+        """Each feature to put. `what` is done with them, if that takes long enough to be told."""
         self.spool.seek(0)
-        for row in self.spool:
+        for row in counted(self.spool, what, len(self.ids_to_put)) if what else self.spool:
             number, whole, text, body = row.rstrip(b"\n").split(b" ", 3)
             yield Planned(int(number), int(whole), int(text), body)
 

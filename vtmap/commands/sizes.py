@@ -3,7 +3,7 @@ import math
 
 from ..client.edits import value_bytes
 from ..geometry.shapes import MOST_WORK, bounds, chains, count, covered, reach
-from ..limits import MOST_ENTRIES, SECTOR
+from ..limits import MOST_ENTRIES, PART, SECTOR
 
 # What a tile takes beside its features: the frame of a layer, and its entry in the directory.
 TILE_BYTES = 24
@@ -53,13 +53,55 @@ class Sizes:
         """The sectors of snapshot and archive."""
         return -(-self.snapshot // SECTOR) + -(-(self.archive + TILE_BYTES * len(self.tiles)) // SECTOR)
 
-    def lines(self, journal):
-        """What a user reads of them, and of the sectors of the journal that they need."""
+    def lines(self, journal, entries=0):
+        """What a user reads of them, of the sectors of the journal that they need, and of the entries that the published archive has."""
         many = "over 1,000,000" if len(self.tiles) >= MOST_TILES else f"up to {len(self.tiles):,}"
         yield f"to send: {counted(self.features, 'feature')}, {counted(self.points, 'point')}"
         yield f"needed beside what the disk has: {counted(journal, 'sector')} of the journal, about {self.area():,} of an area, {many} tiles"
-        if len(self.tiles) > MOST_ENTRIES:
-            yield f"warning: an archive has at most {MOST_ENTRIES:,} entries, and equal neighbours alone share one: end features at a smaller --maxzoom"
+        if len(self.tiles) + entries > MOST_ENTRIES:
+            there = f" The one that was published last has {entries:,}" if entries else ""
+            yield (f"warning: an archive has at most {MOST_ENTRIES:,} entries, and equal neighbours alone share one.{there}: end features at a smaller "
+                   "--maxzoom, or put them into a map of its own (docs/DEPLOYING.md, Join the maps of regions)")
+
+
+class Room:
+    """What the server's disk has room for, and what an import needs of it so far. `status`: what the server tells of itself. `is_new`: whether all
+    features of the file are new on the map, whose tiles are counted then. Else only what is known without looking at the map: the features
+    themselves have to fit into an area."""
+
+    def __init__(self, status, publishes, is_new):
+        journal, area = status["journal"], status["area"]
+        self.area, self.used, self.places = area["sectors"], area["used"], journal["places"]
+        self.free = None if publishes else self.places - journal["used"]
+        self.is_new, self.sums = is_new, Sizes()
+
+    def add(self, length, feature, zooms, is_first):
+        """Adds a feature that is read."""
+        if self.is_new:
+            (shape,) = feature["geometry"].items()
+            self.sums.add(length, feature, shape, zooms, is_first)
+        else:
+            self.sums.snapshot += length
+
+    def lacks(self, area, journal, share=1.0):
+        """What it hasn't room for, None if there is room: so many sectors of an area, and of the journal. `share`: of all that there will be."""
+        need = area + self.used
+        if need > self.area:
+            disk = disk_for(math.ceil(area / share) + self.used)
+            return f"about {need:,} would be needed: move the map to a disk of {disk:,} sectors (docs/DEPLOYING.md)"
+        if self.free is not None and journal > self.free:
+            return f"the journal has {self.free:,} of its {self.places:,} sectors free: give --publish"
+        return None
+
+    def lacks_already(self, read, total):
+        """What it hasn't room for after so many features, of as many as there are, if that is known."""
+        if self.is_new:
+            fault = self.lacks(self.sums.area(), self.sums.snapshot // PART, read / total if total else 1)
+        else:
+            need = self.sums.snapshot // SECTOR
+            fault = f"their snapshot alone takes {need:,}: move the map to a larger disk (docs/DEPLOYING.md)" if need > self.area else None
+        of = f" of {total:,}" if total else ""
+        return f"after {read:,}{of} features, with {self.area:,} sectors of an area: {fault}" if fault else None
 
 
 def segments_of(shape):

@@ -1,18 +1,17 @@
 """The features of a file that GDAL reads: geometry in the units of the map, attributes as tags, ids of GeoJSON."""
-import codecs
+import itertools
 import json
 import math
-import os
 import re
 
 from osgeo import gdal, ogr, osr
 
-from ..faults import Fault
 from ..geometry.shapes import Unfit
 from ..geometry.world import EARTH, HALF, WORLD
 from ..limits import MOST_TAG
 from ..shown import shown
-from . import import_rules
+from . import cut_text, import_rules
+from .file_place import Place, Unreadable
 from .import_rules import COLUMNS, DEGREES
 from .texts import Texts
 
@@ -37,24 +36,33 @@ DROPPED = {
 }
 
 
+# What GDAL makes of a whole number that is smaller or greater than these, without a word.
+LEAST, GREATEST = -2 ** 63, 2 ** 63 - 1
+# Rows that are named each; the rest is counted.
+MOST_ROWS = 20
+# What GDAL says of a polygon that isn't valid, and what a user reads.
+INVALID = {"Self-intersection": "their rings cross", "Ring Self-intersection": "a ring touches itself"}
+
+
 class Notes:
-    """What a user should know of many features: each note once, with how many features it is about and an example of the first."""
+    """What a user should know of many features: each note once, with how many features it is about, an example of the first, and the rows of some."""
 
     def __init__(self):
-        self.counts, self.examples = {}, {}
+        self.counts, self.examples, self.rows = {}, {}, {}
 
-    def add(self, note, example=None):
+    def add(self, note, example=None, row=None):
         self.counts[note] = self.counts.get(note, 0) + 1
         if example is not None:
             self.examples.setdefault(note, f" (as in {example[:40]!r})")
+        if row is not None and self.counts[note] <= MOST_ROWS:
+            self.rows.setdefault(note, []).append(row)
 
     def show(self):
         for note, count in self.counts.items():
-            print(f"note: {shown(note)}{self.examples.get(note, '')}: {count:,} feature{'s' if count > 1 else ''}", flush=True)
-
-
-class Unreadable(Fault):
-    """Why a file can't be read."""
+            rows = self.rows.get(note, [])
+            more = f" and {count - len(rows):,} more" if rows and count > len(rows) else ""
+            print(f"note: {shown(note)}{self.examples.get(note, '')}: {count:,} feature{'s' if count > 1 else ''}"
+                  f"{': ' if rows else ''}{', '.join(map(shown, rows))}{more}", flush=True)
 
 
 class Nowhere(Exception):
@@ -63,16 +71,18 @@ class Nowhere(Exception):
 
 class Reader:
     """Reads features. `encoding` is that of its texts if the file doesn't say it or says a wrong one, `cuts` whether long texts are cut,
-    `columns` the names of the columns of x and y of a table, `id_field` the field of the ids."""
+    `columns` the names of the columns of x and y of a table, `id_field` the field of the ids, `is_whole` whether the file is taken as whole,
+    although it seems to be cut."""
 
-    def __init__(self, path, source=None, crs=None, encoding=None, cuts=False, columns=None, id_field=None):
-        self.path, self.crs, self.cuts, self.id_field = path, crs, cuts, id_field
+    def __init__(self, path, source=None, crs=None, encoding=None, cuts=False, columns=None, id_field=None, is_whole=False):
+        self.path, self.crs, self.cuts, self.id_field, self.is_whole = path, crs, cuts, id_field, is_whole
         self.notes = Notes()
-        # A text file in UTF-16, as Excel writes it, is read from memory in UTF-8.
-        self.place = in_memory(path)
-        encoding = None if self.place != path else encoding
-        self.file = opened(self.place, encoding, keeps_text=id_field == "id")
+        self.place = Place(path)
+        encoding = None if self.place.text is not None else encoding
+        self.file, self.failure = opened(self.place.path, path, encoding, keeps_text=id_field == "id")
         self.kind = self.file.GetDriver().ShortName
+        # The row of the feature that was read last, from 1 on in each layer, what is wrong with its polygons, and how many were read.
+        self.row, self.fault, self.read = 0, None, 0
         # The columns of x and y of a table.
         self.columns: tuple[str, ...] = ()
         self.layers = self.layers_of(source)
@@ -83,7 +93,8 @@ class Reader:
         elif columns:
             raise Unreadable("--x and --y name columns of a table, and the file has geometries")
         self.layers = [layer for layer in self.layers if self.columns or not self.is_left_out(layer)]
-        self.texts = Texts(self.file, encoding, self.notes)
+        self.look_for_end()
+        self.texts = Texts(self.file, encoding, self.notes, self.features_of)
 
     def layers_of(self, source):
         """All layers of the file, or the one of this name."""
@@ -92,6 +103,50 @@ class Reader:
         if not chosen:
             raise Unreadable(f"{self.path} has no layer {source}: its layers are {', '.join(shown(layer.GetName()) for layer in layers)}")
         return chosen
+
+    def look_for_end(self):
+        """Refuses a text file of lines that has lost its end."""
+        columns = self.file.GetLayer(0).GetLayerDefn().GetFieldCount() if self.kind == "CSV" else 0
+        if self.is_whole or not (columns or self.path.lower().endswith(".mif")):
+            return
+        file = self.place.opened()
+        if file is not None:
+            with file:
+                self.refuse(cut_text.fault_of(file, columns))
+
+    def refuse(self, fault):
+        """Refuses a file that isn't whole, if there is such a fault."""
+        if fault and not self.is_whole:
+            raise Unreadable(f"{self.path} seems to be cut: {fault}. Get all of it, or say --not-cut if it is whole")
+
+    def features(self):
+        """Each feature with its layer."""
+        for layer in self.layers:
+            for self.row, feature in enumerate(self.features_of(layer), 1):
+                self.read += 1
+                yield layer, feature
+        if not self.read:
+            self.refuse(self.failure and f"GDAL says {self.failure!r}")
+
+    def features_of(self, layer):
+        """Each feature of a layer. Of a file that ends early GDAL returns those before, and says so beside them."""
+        for read in itertools.count():
+            gdal.ErrorReset()
+            feature = layer.GetNextFeature()
+            if gdal.GetLastErrorType() >= gdal.CE_Failure:
+                self.refuse(f"after row {read:,} GDAL says {gdal.GetLastErrorMsg()!r}")
+            if feature is None:
+                return
+            yield feature
+
+    def at(self, name):
+        """Where the feature that was read last is in the file, in the layer of this name."""
+        return f"row {self.row:,}" + (f" of {shown(name)}" if len(self.layers) > 1 else "")
+
+    def feature_count(self):
+        """How many features the file has, None if GDAL would have to read all of it for that."""
+        counts = [layer.GetFeatureCount(0) for layer in self.layers]
+        return sum(counts) if min(counts, default=-1) >= 0 else None
 
     @staticmethod
     def is_left_out(layer):
@@ -145,12 +200,20 @@ class Reader:
         kind = KINDS.get(geometry.GetGeometryType())
         if kind is None:
             raise Unfit(import_rules.NO_KIND.format(kind=geometry.GetGeometryName()))
+        self.fault = gdal.GetLastErrorMsg() if kind == "polygons" and not geometry.IsValid() else None
         if geometry.Transform(projection) != ogr.OGRERR_NONE:
             raise Unfit("it can't be projected to Web Mercator")
         lists = lists_of(kind, geometry)
         if not lists:
             raise Nowhere
         return kind, lists
+
+    def tell_shape(self):
+        """Notes that the rings of the polygon that was read last cross, or what else makes it none, and where."""
+        reason, _, place = (self.fault or "").partition(" at or near point ")
+        if reason and "GEOS" not in reason:
+            row = f"row {self.row:,}" + (f" at {' '.join(format(float(part), '.9g') for part in place.split())}" if place else "")
+            self.notes.add(INVALID.get(reason, f"no valid polygon ({reason})"), row=row)
 
     def point(self, feature):
         """The point of a row of a table, None if it has none. Of what is no number GDAL would take a part, or nothing."""
@@ -204,6 +267,8 @@ class Reader:
         kind = field.GetType()
         if kind in (ogr.OFTInteger, ogr.OFTInteger64):
             number = feature.GetFieldAsInteger64(at)
+            if number in (LEAST, GREATEST):
+                return self.exact(feature, name, number)
             return number != 0 if field.GetSubType() == ogr.OFSTBoolean else number
         if kind == ogr.OFTReal:
             return self.real(feature, at, name)
@@ -216,6 +281,17 @@ class Reader:
             return None
         return self.short(text, name)
 
+    def exact(self, feature, name, number):
+        """A whole number of which GDAL keeps the least or the greatest that it has. The text of a feature of GeoJSON has all of its digits."""
+        text = feature.GetNativeData()
+        own = (json.loads(text).get("properties") or {}).get(name) if text else None
+        if not isinstance(own, int):
+            self.notes.add(f"the field {name} may have had a number beyond 64 bits, which GDAL makes {number}", row=f"row {self.row:,}")
+            return number
+        if not LEAST <= own <= 2 * GREATEST + 1:
+            raise Unfit(f"its {name} is {own}: numbers go from -2^63 to 2^64 - 1")
+        return own
+
     def real(self, feature, at, name):
         """A whole number as a number, another one as a text."""
         number = feature.GetFieldAsDouble(at)
@@ -224,6 +300,8 @@ class Reader:
             return None
         if number.is_integer() and abs(number) <= 2 ** 53:
             return int(number)
+        if number.is_integer():
+            self.notes.add(f"the field {name} has numbers beyond 53 bits, of which GDAL may have lost digits", row=f"row {self.row:,}")
         return feature.GetFieldAsString(at) if feature.GetFieldDefnRef(at).GetSubType() == ogr.OFSTFloat32 else repr(number)
 
     def short(self, text, name):
@@ -235,37 +313,28 @@ class Reader:
         return raw[:MOST_TAG].decode("utf-8", "ignore")
 
 
-def in_memory(path):
-    """A path of GDAL's to the text of a file in UTF-16, written in UTF-8; any other file's own path."""
-    try:
-        with open(path, "rb") as file:
-            if file.read(2) not in (codecs.BOM_UTF16_LE, codecs.BOM_UTF16_BE):
-                return path
-            file.seek(0)
-            text = file.read().decode("utf-16")
-    except OSError:
-        return path
-    except UnicodeDecodeError as fault:
-        raise Unreadable(f"{path} begins like a text in UTF-16, and isn't one: {fault}") from fault
-    made = f"/vsimem/{os.path.splitext(os.path.basename(path))[0]}.csv"
-    gdal.FileFromMemBuffer(made, text.encode())
-    return made
-
-
-def opened(path, encoding, keeps_text):
-    """The file, which has to outlive its layers. `keeps_text`: GDAL keeps the text of each feature of GeoJSON."""
+def opened(path, given, encoding, keeps_text):
+    """The file, which has to outlive its layers, and what GDAL says that it can't read of it. `given`: the path that a user knows. `keeps_text`: GDAL
+    keeps the text of each feature of GeoJSON, as it also does where a number has more than 64 bits."""
     gdal.UseExceptions()
     gdal.PushErrorHandler("CPLQuietErrorHandler")
+    said = []
+    gdal.PushErrorHandler(lambda level, _, text: said.append((level, text)))
     try:
         file = gdal.OpenEx(path, gdal.OF_VECTOR, open_options=["NATIVE_DATA=YES"] if keeps_text else [])
+        kind = file.GetDriver().ShortName if file is not None else None
+        if kind == "GeoJSON" and not keeps_text and any("64bit" in text for _, text in said):
+            file = gdal.OpenEx(path, gdal.OF_VECTOR, open_options=["NATIVE_DATA=YES"])
         # Texts of a Shapefile as they are: GDAL doesn't recode them by what the file says of its encoding.
-        if file is not None and encoding is not None and file.GetDriver().ShortName == "ESRI Shapefile":
+        if encoding is not None and kind == "ESRI Shapefile":
             file = gdal.OpenEx(path, gdal.OF_VECTOR, open_options=["ENCODING="])
     except RuntimeError as fault:
-        raise Unreadable(f"GDAL can't read {path}: {fault}") from fault
+        raise Unreadable(f"GDAL can't read {given}: {fault}") from fault
+    finally:
+        gdal.PopErrorHandler()
     if file is None:
-        raise Unreadable(f"GDAL can't read {path}: {gdal.GetLastErrorMsg()}")
-    return file
+        raise Unreadable(f"GDAL can't read {given}: {gdal.GetLastErrorMsg()}")
+    return file, next((text for level, text in said if level >= gdal.CE_Failure), None)
 
 
 def is_table(layer):

@@ -6,6 +6,7 @@ are UTF-8, and the file says that it is UTF-8 or has a letter of it elsewhere. I
 """
 import codecs
 
+from ..progress import counted
 from .import_rules import GUESS, NOT_UTF8
 
 # Formats whose fields of texts have a width in bytes, and the width of the names of fields in a DBF file.
@@ -41,28 +42,28 @@ def judged(text, width):
     return UTF8
 
 
-def texts_of(file, is_fixed):
-    """Each text of the layers of a file with the width of its field, also the names of fields."""
+def texts_of(file, is_fixed, features_of):
+    """Each text of the layers of a file with the width of its field, also the names of fields. `features_of` reads a layer."""
     for at in range(file.GetLayerCount()):
         layer = file.GetLayer(at)
         fields = layer.GetLayerDefn()
         widths = [fields.GetFieldDefn(number).GetWidth() if is_fixed else 0 for number in range(fields.GetFieldCount())]
         yield from ((fields.GetFieldDefn(number).GetName(), NAME_WIDTH if is_fixed else 0) for number in range(fields.GetFieldCount()))
-        for feature in layer:
+        for feature in counted(features_of(layer), "features looked at for the encoding of their texts"):
             yield from ((feature.GetFieldAsString(number), width) for number, width in enumerate(widths) if feature.IsFieldSetAndNotNull(number))
         layer.ResetReading()
 
 
 class Texts:
-    """Decodes the texts of a file. `encoding` is that of them if the file doesn't say it or says a wrong one."""
+    """Decodes the texts of a file. `encoding` is that of them if the file doesn't say it or says a wrong one. `features_of` reads a layer of it."""
 
-    def __init__(self, file, encoding, notes):
+    def __init__(self, file, encoding, notes, features_of=iter):
         self.encoding, self.notes = encoding and codecs.lookup(encoding).name, notes
         says = {file.GetLayer(at).GetMetadataItem("SOURCE_ENCODING", "SHAPEFILE") for at in range(file.GetLayerCount())}
         self.is_latin = encoding is None and "ISO-8859-1" in says
         self.cuts = False
         if encoding is None:
-            found = {judged(text, width) for text, width in texts_of(file, file.GetDriver().ShortName in FIXED)}
+            found = {judged(text, width) for text, width in texts_of(file, file.GetDriver().ShortName in FIXED, features_of)}
             is_utf8 = UTF8 in found or CUT_UTF8 in found or "UTF-8" in says
             self.cuts = OTHER not in found and is_utf8
 

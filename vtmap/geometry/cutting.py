@@ -4,7 +4,8 @@ import math
 from osgeo import ogr
 
 from ..limits import MOST_BODY, MOST_REACH, MOST_TEXT
-from .shapes import MOST_WORK, Unfit, bounds, count, list_count, reach, wrong_zooms
+from .shapes import MOST_WORK, Unfit, bounds, chains, count, list_count, reach, wrong_zooms
+from .wholes import twice_area
 from .world import WORLD
 
 MOST_PIECES = 20000
@@ -191,6 +192,18 @@ class Cutter:
         tiles = reach(bounds(shape), self.zooms)
         small = 8 * points + 2 * lists + text <= MOST_TEXT and POINT_BYTES * points + 4 * lists + body <= MOST_BODY
         return small and tiles <= MOST_REACH and points * tiles <= MOST_WORK
+
+    def about(self, shape, many):
+        """About how many pieces a shape is cut into, if that may be as many as `many`: the cells inside of it, and those that its edges cross."""
+        if shape[0] == "points":
+            return 1
+        west, north, east, south = bounds(shape)
+        cells = ((east - west) / self.side + 1) * ((south - north) / self.side + 1)
+        if cells < many or not (self.cuts_cells or wrong_zooms(shape, self.zooms)):
+            return 1
+        length = sum(math.dist(one, other) for chain in chains(shape) for one, other in zip(chain, chain[1:]))
+        area = sum(abs(twice_area(rings[0])) for rings in shape[1]) / 2 if shape[0] == "polygons" else 0
+        return math.ceil(min(cells, area / self.side ** 2 + length / self.side))
 
     def pieces(self, shape, text, body):
         """The pieces of a shape: itself if it needs no cut."""

@@ -13,6 +13,12 @@ class FeatureCutter:
         self.zooms, self.cuts, self.outlines, self.whole = zooms, cuts, outlines, whole
         self.cutter = Cutter(zooms, split_zoom)
 
+    def about(self, shape, many):
+        """About how many pieces a shape is cut into, before it is, if that may be as many as `many`."""
+        if not self.cuts or self.cutter.about(shape, many) < many:
+            return 1
+        return self.cutter.about(on_the_world(shape)[0], many)
+
     def features(self, number, shape, tags, layer):
         """The features to put for one of this id: itself, or its pieces, then the lines of its outline. Also whether it crosses the 180th
         meridian, where it is cut in any case. Raises `Unfit`."""
