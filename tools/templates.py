@@ -33,8 +33,9 @@ OWN = (
     (r"vtmap wmts (?=--url)", "vtmap wmts --port ${PICTURES} --title %i --bounds=${BOUNDS} "),
     (r"(--metrics \S+)", r"\1 --map %i"),
     # Not all maps at once, and each at the same time each day.
-    (r"(OnCalendar=hourly\n)", r"\1RandomizedDelaySec=50min\nFixedRandomDelay=true\n"),
-    (r"(OnCalendar=\*-\*-\* .*\n)", r"\1RandomizedDelaySec=3h\nFixedRandomDelay=true\n"),
+    (r"RandomizedDelaySec=10min", "RandomizedDelaySec=50min"),
+    (r"RandomizedDelaySec=30min", "RandomizedDelaySec=3h"),
+    (r"RandomizedDelaySec=30s", "RandomizedDelaySec=2min"),
 )
 # The other units that a unit, or its comments, name.
 NAMES = (

@@ -217,8 +217,11 @@ def too_many_tiles(cases, folder):
         put(server, range(8000, 10000))
         told.append(subprocess.run([*PUBLISH, server.url, "--record", record], capture_output=True, text=True))
         code, lines = tool("watch", "--url", server.url, "--record", record)
-        said = "wasn't made: refused: TooManyTiles 507 (the map has too many tiles for an archive: end features at a smaller zoom)" in lines[0]
+        then = ("(the map has too many tiles for an archive: end features at a smaller zoom, or take a part of them to a map of its own "
+                "(docs/DEPLOYING.md, Join the maps of regions))")
+        said = f"wasn't made: refused: TooManyTiles 507 {then}" in lines[0]
         cases.show("operation: vtmap watch, 10,000 of them, which no archive takes", (told[1].returncode, code, said), (1, 2, True))
+        cases.show("operation: vtmap publish says what to do", told[1].stderr.splitlines()[0], f"/publish/begin: TooManyTiles 507 {then}")
 
 
 def watched_gateway(cases, folder):

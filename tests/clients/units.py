@@ -208,6 +208,12 @@ def causes(cases, folder):
     for name in TASKS:
         named = [line for line in lines_of(name) if re.match("# OnFailure=.*@%n", line)]
         cases.show(f"units: {name} has a line for who is told when it fails", len(named), 1)
+    for name in ("publish", "watch", "backup"):
+        lines = [line.partition("=") for unit_of in ("", "@") for line in lines_of(f"vtserve-{name}{unit_of}.timer")]
+        delays = [value for key, _, value in lines if key == "RandomizedDelaySec"]
+        cases.show(f"units: not all machines and maps at once, vtserve-{name}.timer", (len(delays), all(delays)), (2, True))
+        # A timer of OnBootSec= that is enabled later fires at once: the watch would miss the first publication and backup.
+        cases.show(f"units: nor before what comes first, vtserve-{name}.timer", [key for key, _, _ in lines if key == "OnBootSec"], [])
 
 
 def backups(cases, folder):

@@ -18,6 +18,7 @@ Reason = namedtuple("Reason", "why then for_people", defaults=("", ""))
 
 TELL = "tell the administrator"
 LARGER = "move it to a larger one (docs/DEPLOYING.md), or end features at a smaller zoom"
+APART = "take a part of them to a map of its own (docs/DEPLOYING.md, Join the maps of regions)"
 AGAIN = "run the same command again, and if that doesn't help look at the server"
 # By the word of the server's reply.
 WORDS = {
@@ -34,7 +35,7 @@ WORDS = {
     "JournalFull": Reason("no room for edits until the map is published", "publish, and run the same command again, or give it --publish",
                           "publish, or tell the administrator, and do it again"),
     "AreaFull": Reason("the map no longer fits on its disk", LARGER, f"{TELL}, today"),
-    "TooManyTiles": Reason("the map has too many tiles for an archive", "end features at a smaller zoom", f"{TELL}, today"),
+    "TooManyTiles": Reason("the map has too many tiles for an archive", f"end features at a smaller zoom, or {APART}", f"{TELL}, today"),
     "NeedsUpgrade": Reason("the disk of the server has version 1", "upgrade it (docs/DEPLOYING.md)", TELL),
     "Device": Reason("the disk of the server failed: the last edit may be stored or not", "restart the server when the disk is repaired",
                      f"{TELL}, now. What was acknowledged is safe"),

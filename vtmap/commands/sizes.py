@@ -2,11 +2,13 @@
 import math
 
 from ..client.edits import value_bytes
+from ..client.refusals import APART
 from ..geometry.shapes import MOST_WORK, bounds, chains, count, covered, reach
 from ..limits import MOST_ENTRIES, PART, SECTOR
 
 # What a tile takes beside its features: the frame of a layer, and its entry in the directory.
 TILE_BYTES = 24
+FEWER_TILES = f"end features at a smaller --maxzoom, or {APART}"
 # Tiles that are told apart while they are counted.
 MOST_TILES = 1000000
 
@@ -60,8 +62,7 @@ class Sizes:
         yield f"needed beside what the disk has: {counted(journal, 'sector')} of the journal, about {self.area():,} of an area, {many} tiles"
         if len(self.tiles) + entries > MOST_ENTRIES:
             there = f" The one that was published last has {entries:,}" if entries else ""
-            yield (f"warning: an archive has at most {MOST_ENTRIES:,} entries, and equal neighbours alone share one.{there}: end features at a smaller "
-                   "--maxzoom, or put them into a map of its own (docs/DEPLOYING.md, Join the maps of regions)")
+            yield f"warning: an archive has at most {MOST_ENTRIES:,} entries, and equal neighbours alone share one.{there}: {FEWER_TILES}"
 
 
 class Room:

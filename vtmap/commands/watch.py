@@ -10,7 +10,7 @@ import time
 from ..alive import ASKED
 from ..client.client import Client, word
 from ..client.followers import NUMBER, Log
-from ..client.refusals import STATUSES, WORDS, told
+from ..client.refusals import APART, STATUSES, WORDS, told
 from ..ending import regular, replaced
 from ..faults import Fault, NoAnswer
 from ..files.attachments import LEAST_FREE, PATH, Attachments
@@ -158,7 +158,7 @@ def many_tiles(status, most):
     used = status.get("entries")
     if used is not None and used * 100 >= MOST_ENTRIES * most:
         yield SOON, (f"the archive has {used:,} entries, and may have {MOST_ENTRIES:,}: beyond that no publication is made (TooManyTiles), and once the "
-                     "journal is full no edit. End features at a smaller zoom, or take a part of them to a map of its own")
+                     f"journal is full no edit. End features at a smaller zoom, or {APART}")
 
 
 def left(status, client, wait):

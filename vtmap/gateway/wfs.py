@@ -204,7 +204,7 @@ def filter_in(said):
 
 def told(counts):
     """The counts of a Transaction as a text."""
-    made = (counts["Insert"] - counts[AGAIN], "new"), (counts["Update"], "changed"), (counts["Delete"], "deleted")
+    made = (counts["Insert"] - counts[AGAIN], "new"), (counts[AGAIN], "sent again"), (counts["Update"], "changed"), (counts["Delete"], "deleted")
     return ", ".join(f"{count:,} {said}" for count, said in made if count) or "nothing"
 
 
