@@ -31,14 +31,22 @@ class MapFiles(unittest.TestCase):
             self.assertRaises(Wrong, map_file.box, text)
 
     def test_a_new_map_takes_ports_and_names_that_are_free(self):
-        self.assertEqual(map_file.new_map("west", None, [], (), [NORTH, SOUTH]), MapHere("west", 8104, 8105))
-        self.assertEqual(map_file.new_map("west", None, [], (), [SOUTH]), MapHere("west", 8100, 8101))
+        self.assertEqual(map_file.new_map("west", None, [], (), [NORTH, SOUTH]), MapHere("west", 8104, 8105, pictures=18104))
+        self.assertEqual(map_file.new_map("west", None, [], (), [SOUTH]), MapHere("west", 8100, 8101, pictures=18100))
         for other in (MapHere("x", 8100, 9000), MapHere("x", 9000, 8101)):
             self.assertEqual(map_file.new_map("west", None, [], (), [other]).port, 8102)
         self.assertEqual(map_file.new_map("west", 9000, ["w.example"], (), [NORTH]).gateway, 9001)
         for port in (8099, 8100, 8101, 0, 65535):
             self.assertRaises(Refused, map_file.new_map, "west", port, [], (), [NORTH])
         self.assertRaises(Refused, map_file.new_map, "west", None, ["north.example.org"], (), [NORTH])
+
+    def test_the_port_of_pictures_is_free(self):
+        for port, others, wanted in ((8100, [], 18100), (60000, [], 50000), (8100, [MapHere("x", 18100, 18101)], 18102), (60000, [MapHere("x", 50000, 1)], 49999)):
+            self.assertEqual(map_file.new_map("west", port, [], (), others).pictures, wanted)
+        self.assertRaises(Refused, map_file.new_map, "west", 18100, [], (), [MapHere("x", 8100, 8101, pictures=18100)])
+        old = MapHere("old", 8100, 8101)
+        self.assertNotIn("PICTURES", old.text)
+        self.assertEqual(map_file.map_of("old", old._replace(pictures=7).text).pictures, 7)
 
     def test_names_that_a_map_cannot_have(self):
         for name in ("", "North", "1st", "a" * 32, "a_b", "a/b", *map_file.PATHS):
@@ -57,6 +65,9 @@ class NginxFiles(unittest.TestCase):
         self.assertEqual(files["paths.conf"], '"~^/north(/|\\?|$)" north;\n"~^/south-2(/|\\?|$)" south-2;\n')
         self.assertEqual(files["upstreams.conf"].count("127.0.0.1:810"), 4)
         self.assertIn("$is_edit_of_south_2", files["upstreams.conf"])
+        self.assertNotIn("drawer", files["upstreams.conf"])
+        drawn = nginx_files.files_of([SOUTH._replace(pictures=18102)])["upstreams.conf"]
+        self.assertIn("upstream drawer-south-2 {\n    server 127.0.0.1:18102;\n}\n", drawn)
         self.assertIn("rewrite ^/south-2(?:/(.*))?$ /$1;", files["rewrites.conf"])
 
     def test_tilejson_of_a_map_with_a_box(self):

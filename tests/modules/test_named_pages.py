@@ -14,7 +14,9 @@ class NamedPages(unittest.TestCase):
         found = set()
         for path in glob.glob(os.path.join(stand.TOP, "vtmap", "**", "*.py"), recursive=True):
             with open(path, encoding="utf-8") as file:
-                found |= {(page, heading.strip('"')) for page, heading in NAMED.findall(file.read().replace('"\n', '"'))}
+                found |= {
+                    (page, heading.strip('"')) for page, heading in NAMED.findall(file.read().replace('"\n', '"'))
+                }
         self.assertIn(("DEPLOYING.md", "A second machine"), found)
         for page, heading in found:
             with open(os.path.join(stand.TOP, "docs", page), encoding="utf-8") as file:

@@ -79,4 +79,5 @@ def new_map(name: str, port: int | None, hosts: list[str], bounds: tuple[float, 
         port = next(each for each in range(FIRST_PORT, LAST_PORT, 2) if not used & {each, each + 1})
     elif used & {port, port + 1} or not 0 < port <= LAST_PORT:
         raise Refused(f"port {port}, or the one after it, is used by another map, or is none")
-    return MapHere(name, port, port + 1, tuple(hosts), bounds, port + FAR if port + FAR <= LAST_PORT else port - FAR)
+    further = (*range(port + FAR, LAST_PORT + 1), *range(port - FAR, 0, -1))
+    return MapHere(name, port, port + 1, tuple(hosts), bounds, next(each for each in further if each not in used))
