@@ -217,61 +217,81 @@ def commands(cases, folder, server, kept):
 # ---- QGIS
 
 QGIS = """
-import os, sys
+import os, sys, time
 os.environ["QT_QPA_PLATFORM"] = "offscreen"
 from qgis.core import *
-from qgis.gui import QgsGui
+from qgis.gui import *
+from qgis.PyQt.QtCore import QMimeData, QPoint, QPointF, Qt, QUrl
+from qgis.PyQt.QtGui import QDragEnterEvent, QDropEvent
+from qgis.PyQt.QtWidgets import QApplication, QLabel, QLineEdit
 app = QgsApplication([], True, os.path.join(sys.argv[1], "profile"))
 app.initQgis()
-base, photo = sys.argv[2:4]
-layer = QgsVectorLayer(f"srsname='EPSG:3857' typename='v:well.points' url='{base}/wfs' version='auto'", "well", "WFS")
-(row,) = layer.getFeatures()
-# What the attachment widget does with a storage of the kind WebDAV, whose address its expression says.
-expression = QgsExpression("'" + base + "/files/put/' || uuid('WithoutBraces') || '.' || file_suffix(@selected_file_path)")
-scope = QgsExpressionContextScope()
-scope.setVariable("selected_file_path", photo)
-context = QgsExpressionContext([scope])
-address = expression.evaluate(context)
-storage = QgsApplication.externalStorageRegistry().externalStorageFromType("WebDAV")
-stored = storage.store(photo, address, "")
-stored.store()
-while stored.status() in (Qgis.ContentStatus.NotStarted, Qgis.ContentStatus.Running):
-    app.processEvents()
-print(stored.status() == Qgis.ContentStatus.Finished, stored.url() == address, stored.errorString())
+QgsGui.editorWidgetRegistry().initEditors()
+project, photo = sys.argv[2:4]
+QgsProject.instance().read(project)
+layer = next(layer for layer in QgsProject.instance().mapLayers().values() if layer.providerType() == "WFS")
+
+
+def until(is_done):
+    end = time.monotonic() + 30
+    while not is_done() and time.monotonic() < end:
+        app.processEvents()
+
+
+def form_of(layer):
+    '''The form of the one feature, and the attachment widget in it.'''
+    form = QgsAttributeForm(layer, next(layer.getFeatures()))
+    form.setMode(QgsAttributeEditorContext.SingleEditMode)
+    form.show()
+    return form, form.findChildren(QgsExternalResourceWidget)[0]
+
+
+def has_picture(form):
+    return any(label.pixmap() and label.pixmap().width() > 50 for label in form.findChildren(QLabel))
+
+
 layer.startEditing()
-layer.changeAttributeValue(row.id(), layer.fields().indexOf("photo"), stored.url())
-print(layer.commitChanges())
-layer.dataProvider().reloadData()
-again = QgsVectorLayer(f"srsname='EPSG:3857' typename='v:well.points' url='{base}/wfs' version='auto'", "again", "WFS")
-(row,) = again.getFeatures()
-print(row["photo"])
-fetched = storage.fetch(row["photo"], "")
-fetched.fetch()
-while fetched.status() in (Qgis.ContentStatus.NotStarted, Qgis.ContentStatus.Running):
-    app.processEvents()
-print(open(fetched.filePath(), "rb").read() == open(photo, "rb").read())
+form, widget = form_of(layer)
+# A photo is dropped on the widget, as from a folder.
+line, mime = widget.fileWidget().findChild(QLineEdit), QMimeData()
+mime.setUrls([QUrl.fromLocalFile(photo)])
+QApplication.sendEvent(line, QDragEnterEvent(QPoint(5, 5), Qt.CopyAction, mime, Qt.LeftButton, Qt.NoModifier))
+QApplication.sendEvent(line, QDropEvent(QPointF(5, 5), Qt.CopyAction, mime, Qt.LeftButton, Qt.NoModifier))
+until(lambda: "/put/" in str(widget.fileWidget().filePath()))
+until(lambda: has_picture(form))
+print(has_picture(form))
+print(form.save(), layer.commitChanges())
+again = QgsVectorLayer(layer.source(), "again", "WFS")
+again.setEditorWidgetSetup(again.fields().indexOf("photo"), layer.editorWidgetSetup(layer.fields().indexOf("photo")))
+print(next(again.getFeatures())["photo"])
+form, widget = form_of(again)
+until(lambda: has_picture(form))
+print(has_picture(form))
 sys.stdout.flush()
 os._exit(0)
 """
 
 
 def by_qgis(cases, folder):
-    """QGIS's storage of attachments: the part `files-qgis`."""
-    if subprocess.run([SYSTEM_PYTHON, "-c", "import qgis.gui"], capture_output=True, check=False).returncode:
-        cases.say("no python3-qgis: QGIS sends no photo")
+    """QGIS's attachment widget, in the project of `vtmap qgis --edit`: the part `files-qgis`."""
+    nginx = shutil.which("nginx", path=os.environ.get("PATH", "") + ":/usr/sbin")
+    if not nginx or subprocess.run([SYSTEM_PYTHON, "-c", "import qgis.gui"], capture_output=True, check=False).returncode:
+        cases.say("no python3-qgis or no nginx: QGIS sends no photo")
         return
     folder = os.path.join(folder, "files-qgis")
     os.mkdir(folder)
-    photo = os.path.join(folder, "IMG 1.png")
+    photo, project, picture = os.path.join(folder, "IMG 1.png"), os.path.join(folder, "map.qgs"), image((9, 200, 90))
     with open(photo, "wb") as file:
-        file.write(PNG)
+        file.write(picture)
     with Server(folder, "map", more=("--admin",)) as server, Gateway(folder, server.url, "--files", os.path.join(folder, "kept")) as gateway:
-        curl(f"{server.url}/features/1", "-X", "PUT", body=feature("well", 0, 14, tags={"photo": ""}))
-        child = subprocess.run([SYSTEM_PYTHON, "-c", QGIS, folder, gateway.url, photo], capture_output=True, text=True, check=False, timeout=120)
-        path = path_of(PNG, "png")
-        cases.show("files: QGIS sends a photo, saves it, and shows it", child.stdout.splitlines() or child.stderr,
-                   ["True True ", "True", f"{gateway.url}/{path}", "True"])
-        cases.show("files: and the map has its path", feature_at(server.url, 1)["tags"], {"photo": path})
+        curl(f"{server.url}/features/1", "-X", "PUT", body=feature("well", 0, 14, tags={"name": "Well", "photo": ""}))
+        with Nginx(nginx, folder, server, [("127.0.0.1:8090", f"127.0.0.1:{gateway.port}")]) as front:
+            subprocess.run([*VTMAP, "qgis", project, "--edit", "--url", front.url], capture_output=True, check=True)
+            child = subprocess.run([SYSTEM_PYTHON, "-c", QGIS, folder, project, photo], capture_output=True, text=True, check=False, timeout=200)
+            path = path_of(picture, "png")
+            cases.show("files: a photo that is dropped on QGIS's form is sent, shown, saved, and shown again", child.stdout.splitlines() or child.stderr,
+                       ["True", "True True", f"{front.url}/{path}", "True"])
+            cases.show("files: and the map has its path", feature_at(server.url, 1)["tags"], {"name": "Well", "photo": path})
 
 
 # ---- the page

@@ -15,6 +15,11 @@ GEOMETRIES = {"points": "Point", "lines": "Line", "areas": "Polygon"}
 NO_VALUE, NOT_NULL, WARNS = "{2839923C-8B7D-419E-B84B-CA2FE9B80EC7}", 1, 2
 DAY = {"allow_null": True, "calendar_popup": True, "display_format": "yyyy-MM-dd", "field_format": "yyyy-MM-dd", "field_iso_format": False}
 TRUTHS = {"CheckedState": "true", "UncheckedState": "false"}
+# The tags that the page gives to photos and files. QGIS sends a file as soon as it is chosen, to an address that no other file has.
+ATTACHED = re.compile(r"(photo|document)( [0-9]+)?")
+STORED_AT = "'{}/files/put/' || uuid('WithoutBraces') || '.' || file_suffix(@selected_file_path)"
+# What QGIS shows below the name of a file, how high in pixels, and how it keeps an expression in place of a value.
+NOTHING, PICTURE, HIGH, EXPRESSION = 0, 1, 240, 3
 
 
 class Editable:
@@ -57,12 +62,16 @@ def columns_in(root):
 
 
 def option(name, value):
-    """An option of QGIS: a text, a truth, or a list of pairs of what people read and a value."""
+    """An option of QGIS: a text, a number, a truth, others by their names, or a list of pairs of what people read and a value."""
     named = {"name": name} if name else {}
+    if isinstance(value, dict):
+        return element("Option", *[option(key, one) for key, one in value.items()], type="Map", **named)
     if isinstance(value, list):
         return element("Option", *[element("Option", option(told, one), type="Map") for told, one in value], type="List", **named)
     if isinstance(value, bool):
         return element("Option", type="bool", value=str(value).lower(), **named)
+    if isinstance(value, int):
+        return element("Option", type="int", value=value, **named)
     return element("Option", type="QString", value=value, **named)
 
 
@@ -76,15 +85,32 @@ def widget_of(field):
     return ("DateTime", DAY) if field.type == "date" else ("TextEdit", {})
 
 
-def form_of(layer, rules):
+def attachment(tag, address):
+    """How QGIS edits a tag with the path of a photo or a file: by its attachment widget, which sends files to the gateway."""
+    stored = {"active": True, "expression": STORED_AT.format(address.replace("'", "%27")), "type": EXPRESSION}
+    return "ExternalResource", {
+        "StorageType": "WebDAV", "PropertyCollection": {"name": "", "properties": {"storageUrl": stored}, "type": "collection"}, "StorageMode": 0,
+        "RelativeStorage": 0, "FileWidget": True, "FileWidgetButton": True, "DocumentViewer": PICTURE if tag.startswith("photo") else NOTHING,
+        "DocumentViewerHeight": HIGH, "DocumentViewerWidth": 0, "UseLink": False, "FullUrl": True,
+    }
+
+
+def widgets_of(layer, known, address):
+    """How QGIS edits the columns of a layer that the schema knows, and those with photos and files."""
+    widgets = {column: widget_of(field) for column, field in known.items()}
+    for column in layer.columns:
+        if ATTACHED.fullmatch(map_name(column)) and widgets.get(column, ("TextEdit", {}))[0] == "TextEdit":
+            widgets[column] = attachment(map_name(column), address)
+    return [element("field", element("editWidget", element("config", option(None, options)), type=name), name=column)
+            for column, (name, options) in widgets.items()]
+
+
+def form_of(layer, rules, address):
     """The forms of a layer by the schema's rules for it, or None."""
     fields = {column: rules.fields.get(map_name(column)) for column in layer.columns} if rules else {}
     known = {column: field for column, field in fields.items() if field}
-    widgets, aliases, constraints = [], [], []
+    aliases, constraints = [], []
     for column, field in known.items():
-        name, options = widget_of(field)
-        config = element("config", element("Option", *[option(key, value) for key, value in options.items()], type="Map"))
-        widgets.append(element("field", element("editWidget", config, type=name), name=column))
         if field.label:
             aliases.append(element("alias", field=column, index=layer.columns.index(column), name=field.label))
         if field.required:
@@ -92,7 +118,7 @@ def form_of(layer, rules):
     editable = [element("field", name=column, editable=int(column != ID)) for column in layer.columns]
     label = next((column for column in known if rules.label == map_name(column)), None)
     shown = [element("previewExpression", f'"{label}"')] if label else []
-    return [element("fieldConfiguration", *widgets), element("aliases", *aliases), element("constraints", *constraints),
+    return [element("fieldConfiguration", *widgets_of(layer, known, address)), element("aliases", *aliases), element("constraints", *constraints),
             element("editable", *editable), *shown]
 
 
@@ -101,7 +127,7 @@ def layer_xml(layer, address, system, rules):
     source = (f" pagingEnabled='true' preferCoordinatesForWfsT11='false' restrictToRequestBBOX='1' srsname='EPSG:3857' typename='v:{layer.name}' "
               f"url='{address}/wfs' version='auto'")
     return source, element("maplayer", element("id", layer.id), element("datasource", source), element("layername", layer.title),
-                           element("srs", Xml(system)), element("provider", "WFS", encoding="UTF-8"), *form_of(layer, rules),
+                           element("srs", Xml(system)), element("provider", "WFS", encoding="UTF-8"), *form_of(layer, rules, address),
                            type="vector", geometry=GEOMETRIES[layer.kind], hasScaleBasedVisibilityFlag="0")
 
 
