@@ -12,6 +12,7 @@ import socket
 import stat
 import subprocess
 import sys
+import tempfile
 import time
 
 from pictures import Drawer, has_cairo
@@ -20,6 +21,7 @@ from stand import HERE, PROGRAM, TILE, TOP, VTMAP, Nginx, Server, curl, feature,
 TIMED = ("publish", "watch", "backup")
 STARTED = "enable --now vtserve@{0}.service" + "".join(f" vtserve-{name}@{{0}}.timer" for name in TIMED)
 ONCE = "start --no-block vtserve-publish@north.service vtserve-backup@north.service"
+WATCHED = "--quiet is-enabled vtserve-watch-maps.timer"
 STOPPED = "disable --now" + "".join(f" vtserve-{name}@{{0}}.timer" for name in TIMED) + "".join(
     f" vtserve{name}@{{0}}.service" for name in ("-wfs", "-wmts", "-log", "-standby", ""))
 
@@ -142,7 +144,8 @@ def commands(cases, here):
     once = " once nginx runs (vtserve-nginx.service)"
     said = [f"{disk} is kept as it was", "north: http://localhost:8000/north/" + once, "north: http://north.example.org:8000/" + once]
     cases.show("maps: vtmap maps add", (status, lines), (0, said))
-    cases.show("maps: what it runs", here.calls(), ["daemon-reload", STARTED.format("north"), ONCE, "--quiet is-active vtserve-nginx.service"])
+    wanted = ["daemon-reload", WATCHED, STARTED.format("north"), ONCE, "--quiet is-active vtserve-nginx.service"]
+    cases.show("maps: what it runs", here.calls(), wanted)
     modes = [here.mode(*path) for path in (["etc/vtserve/maps/north"], ["var/lib/vtserve/north/map.disk"], ["var/lib/vtserve/north"])]
     cases.show("maps: modes of its files, and of its folder", modes, ["0o640", "0o640", "0o750"])
     with open(here.path("etc/vtserve/maps/north"), encoding="utf-8") as file:
@@ -169,7 +172,34 @@ def commands(cases, here):
     cases.show("maps: what that runs", here.calls(), ["--quiet is-active vtserve-nginx.service", STOPPED.format("north"), "daemon-reload",
                                                       "--quiet is-active vtserve-nginx.service", STOPPED.format("south")])
     left = sorted(os.listdir(here.path("etc/vtserve/maps"))) + os.listdir(here.path("etc/systemd/system"))
+    with open(os.path.join(here.kept, "enabled"), "w", encoding="ascii"):
+        here.calls()
+        here.maps("add", "north")
+    os.unlink(os.path.join(here.kept, "enabled"))
+    wanted = STARTED.format("north").replace(" vtserve-watch@north.timer", "")
+    cases.show("maps: where one timer watches all, a map has none of its own", wanted in here.calls(), True)
+    here.maps("remove", "north")
     cases.show("maps: what is left", (left, sorted(os.listdir(here.path("var/lib/vtserve")))), ([], ["north", "south"]))
+
+
+def all_maps(cases, here, url):
+    """One watch of all maps, which says of each what the watch of that map says."""
+    kept = here.path("var/lib/vtserve-watch/{map}")
+    words = ["watch", "--maps", "--url", url + "/{map}", "--state", kept + "/all.state", "--metrics", kept + "/all.prom"]
+    found = here.vtmap(*words)
+    cases.show("maps: one watch of all", found, (0, ["3 maps: nothing to do"]))
+    with open(here.path("var/lib/vtserve-watch/south/all.prom"), encoding="utf-8") as file:
+        cases.show("maps: the metrics of each", 'vtserve_up{map="south"} 1' in file.read(), True)
+    os.makedirs(here.path("var/backups/vtserve/east"), exist_ok=True)
+    shutil.copy(here.path("etc/vtserve/maps/east"), os.path.join(here.path("var/backups/vtserve/east"), "map-2026-12-01.jsonl"))
+    code, lines = here.vtmap(*words, "--backups", here.path("var/backups/vtserve/{map}"))
+    said = [f"{name}: {here.path('var/backups/vtserve', name)} has no backup" for name in ("north", "south")]
+    cases.show("maps: what is to be done about each", (code, [line.partition(": is")[0] for line in lines]), (1, [*said, "1 map: nothing to do"]))
+    code, lines = here.vtmap(*words, "--gateway", "http://127.0.0.1:{gateways}")
+    cases.show("maps: words that can't be meant", (code, "{map}, {port} and {gateway} can be named" in lines[-1]), (2, True))
+    with tempfile.TemporaryDirectory() as none:
+        child = subprocess.run([*VTMAP, "watch", "--maps", "--root", none], capture_output=True, text=True)
+        cases.show("maps: a watch of no map", (child.returncode, child.stdout), (0, "0 maps: nothing to do\n"))
 
 
 def addresses(cases, here, front):
@@ -213,6 +243,7 @@ def addresses(cases, here, front):
     cases.show("maps: the watch of a map", (child.returncode, said in child.stdout or child.stdout + child.stderr), (1, True))
     with open(os.path.join(state, "vtserve.prom"), encoding="utf-8") as file:
         cases.show("maps: its metrics", [line for line in file.read().splitlines() if line.startswith("vtserve_features")], ['vtserve_features{map="north"} 1'])
+    all_maps(cases, here, url)
     links = {link["rel"]: link["href"] for link in json.loads(answered(url + "/north/ogc/")[2])["links"]}
     cases.show("maps: its gateway knows the path", links["data"], f"{url}/north/ogc/collections")
     cases.show("maps: a map without a gateway, and without pictures", [status_of(curl(url + path)) for path in ("/south/ogc/", "/south/xyz/0/0/0.png")], [502] * 2)

@@ -117,6 +117,8 @@ def main(words):
         return 1
     if "is-active" in words:
         return 0 if os.environ.get("NGINX") else 3
+    if "is-enabled" in words:
+        return 0 if os.path.exists(os.path.join(KEPT, "enabled")) else 1
     if words[0] == "reload":
         return subprocess.run([*json.loads(os.environ["NGINX"]), "-s", "reload"], stderr=subprocess.DEVNULL).returncode
     if words[0] == "cat":

@@ -151,7 +151,7 @@ def by_a_command(cases, folder):
             file.write(CLOSED + CLOSED.replace("^ ", "^north "))
         subprocess.run(["systemctl", "reload", "vtserve-nginx.service"], env=here.words)
         words = ["takeover", "--url", standby.url, "--leader", leader.url]
-        closed = waited(lambda: status_of(curl(front.url + "/features/9", "-X", "PUT", body=feature())) == 503)
+        closed = waited(lambda: status_of(curl(front.url + "/features/9", "-X", "DELETE")) == 503)
         readers = status_of(curl(front.url + "/features/1")), status_of(curl(front.url + "/map/0/0/0.mvt"))
         cases.show("takeover: nobody edits the standby by its nginx, and readers read", (closed, readers), (True, (200, 200)))
         here.calls()

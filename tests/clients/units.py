@@ -20,6 +20,7 @@ EXPOSURE = {
     "vtserve-nginx.service": 3.5,
     "vtserve-publish.service": 1.5,
     "vtserve-watch.service": 1.5,
+    "vtserve-watch-maps.service": 1.5,
     "vtserve-backup.service": 1.0,
     "vtserve-log.service": 1.5,
     "vtserve-standby.service": 1.5,

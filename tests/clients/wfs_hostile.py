@@ -131,10 +131,11 @@ def persons(cases, folder, server):
     """Who saves is what nginx says, and nothing without it. A Save that was sent again is told as one."""
     for words, wanted in (([], "127.0.0.1"), (["--behind-nginx"], "J\u00f6rg")):
         with Gateway(folder, server.url, *words) as gateway:
-            action = Gis(gateway, "plain.points").insert(point(9.0 + len(words), 9.0))
+            gis = Gis(gateway, "plain.points")
+            action = gis.insert(point(9.0 + len(words), 9.0))
             fields = "-H", "Content-Type: text/xml", "-H", "X-Forwarded-User: J\u00f6rg"
             for _ in range(2):
-                curl(f"{gateway.url}/wfs", *fields, body=f"<Transaction {GML}>{action}</Transaction>")
+                curl(gis.url, *fields, body=f"<Transaction {GML}>{action}</Transaction>")
             told = [line.split(": ")[1:] for line in gateway.end()[1] if line.startswith("saved: ")]
         cases.show(f"wfs-hostile: a name {'with' if words else 'without'} --behind-nginx", [name for name, _ in told], [wanted] * 2)
         cases.show("wfs-hostile: the log says what was sent again", [made.split(",")[0] for _, made in told], ["1 new", "1 sent again"])

@@ -1,4 +1,6 @@
 """`vtmap watch`: looks at a running `vtserve serve --admin`, and says what an operator should do before it is too late. Needs no package."""
+import argparse
+import concurrent.futures
 import fnmatch
 import html
 import json
@@ -12,9 +14,10 @@ from ..client.client import Client, word
 from ..client.followers import NUMBER, Log
 from ..client.refusals import APART, STATUSES, WORDS, told
 from ..ending import regular, replaced
-from ..faults import Fault, NoAnswer
+from ..faults import Fault, NoAnswer, Wrong
 from ..files.attachments import LEAST_FREE, PATH, Attachments
 from ..limits import MOST_ENTRIES, SECTOR
+from ..machine.machine import Machine
 
 DAY = 24 * 3600
 SOON, NOW, UNKNOWN = 1, 2, 3
@@ -37,7 +40,14 @@ whether the last publication was refused, and when it was. --backups FOLDER is w
 (map-2026-11-29.jsonl): whether the newest backup is older than --backup-hours. --standby URL is a server that `vtmap follow` keeps as this
 one, and --log FILE a log that it writes: whether they lack edits. --gateway URL is a `vtmap wfs`: whether it answers. --files FOLDER is
 the folder of its photos and files: whether its disk has room, and with --backups whether they are in the backups. --metrics FILE is written
-for Prometheus, by the textfile collector of node_exporter."""}
+for Prometheus, by the textfile collector of node_exporter.
+
+--maps looks at each map of a machine with several (`vtmap maps`), eight at once: {map}, {port} and {gateway} in the other words are the name
+and the ports of each. It prints what is to be done with the map's name before it, and ends with the most urgent of all.
+
+    vtmap watch --maps --url http://127.0.0.1:8000/{map} --state /var/lib/vtserve-watch/{map}/state"""}
+# How many maps are looked at at once, and the words in which a map is named.
+AT_ONCE, NAMED = 8, ("url", "state", "record", "backups", "metrics", "standby", "log", "gateway", "files")
 # How docs/vtserve-backup.service names its files. A backup that isn't finished has another name.
 BACKUP = "map-*.jsonl"
 # Edits of less than this share of the journal say nothing of how fast it fills.
@@ -365,23 +375,60 @@ def options(parser, _):
     parser.add_argument("--gateway", metavar="URL", action="append", default=[], help="a `vtmap wfs` that is to answer; may be given several times")
     parser.add_argument("--metrics", metavar="FILE", help="write metrics for Prometheus")
     parser.add_argument("--map", metavar="NAME", help="the map that they are of, on a machine with several")
+    parser.add_argument("--maps", action="store_true", help="look at each map of this machine; {map} in the other words is its name")
+    parser.add_argument("--root", metavar="FOLDER", default="/", help="--maps: the folder of /etc, for a try")
+
+
+def of_map(words, one):
+    """The words of the command for one of the maps, which has a folder for what is kept of it."""
+    def named(value):
+        return [named(each) for each in value] if isinstance(value, list) else value and value.format(map=one.name, port=one.port, gateway=one.gateway)
+
+    try:
+        found = argparse.Namespace(**{**vars(words), **{name: named(getattr(words, name)) for name in NAMED}, "map": one.name})
+    except (LookupError, ValueError) as fault:
+        raise Wrong(f"--maps: {{map}}, {{port}} and {{gateway}} can be named in the other words: {fault}") from fault
+    for path in filter(None, (found.state, found.metrics)):
+        os.makedirs(os.path.dirname(os.path.abspath(path)), exist_ok=True)
+    return found
 
 
 def work(words):
-    """Looks, and prints what is to be done."""
+    """Looks at one map, or at each of this machine, and prints what is to be done."""
+    if not words.maps:
+        result, lines = looked(words)
+        print("\n".join(lines))
+        return result
+    maps = Machine(words.root).maps()
+    with concurrent.futures.ThreadPoolExecutor(AT_ONCE) as threads:
+        found = list(threads.map(looked, [of_map(words, one) for one in maps]))
+    for one, (result, lines) in zip(maps, found):
+        if result:
+            print("\n".join(f"{one.name}: {line}" for line in lines))
+    fine = sum(result == 0 for result, _ in found)
+    if fine or not maps:
+        print(f"{fine:,} map{'' if fine == 1 else 's'}: nothing to do")
+    return most_urgent(result for result, _ in found)
+
+
+def most_urgent(levels):
+    """The most urgent of some levels, 0 if there is none."""
+    levels = set(levels)
+    return next((level for level in (NOW, UNKNOWN, SOON) if level in levels), 0)
+
+
+def looked(words):
+    """Looks at a map. Returns how urgent what is to be done is, and the lines about it."""
     try:
         status, found = tasks(words, Client(words.url), time.time())
     except Fault as fault:
         status, found = None, [(UNKNOWN, str(fault))]
-    result = next((level for level in (NOW, UNKNOWN, SOON) if any(level == one for one, _ in found)), 0)
-    for _, text in found:
-        print(text)
+    result, lines = most_urgent(level for level, _ in found), [text for _, text in found]
     if not found:
-        print(f"{status['features']:,} features, edit {status['edits']:,}, generation {status['generation']:,}: nothing to do")
+        lines = [f"{status['features']:,} features, edit {status['edits']:,}, generation {status['generation']:,}: nothing to do"]
     if words.metrics:
         try:
             metrics(words.metrics, status, result, words.map)
         except OSError as fault:
-            print(f"--metrics {words.metrics}: {fault}")
-            return NOW if result == NOW else UNKNOWN
-    return result
+            return most_urgent([result, UNKNOWN]), [*lines, f"--metrics {words.metrics}: {fault}"]
+    return result, lines

@@ -154,6 +154,8 @@ class Wfs:
             counts, added = {"Insert": len(again), "Update": 0, "Delete": 0}, again
             if not again or not all(is_there(self.live, session, fid) for fid in again):
                 counts, added = self.save((name, session), actions_of(root), again, mark, (person, is_meant))
+            else:
+                print(f"saved: {shown(person)}: {len(again):,} sent again", flush=True)
             return wfs_texts.transacted(root.get("version", wfs_texts.V1.name), counts, added)
 
     def save(self, named, actions, again, mark, said):

@@ -25,6 +25,8 @@ MAPS, NGINX, UNITS, DISKS, BACKUPS = (
 # What is started with a map, and what else may run for it.
 STARTED = ("vtserve@{}.service", "vtserve-publish@{}.timer", "vtserve-watch@{}.timer", "vtserve-backup@{}.timer")
 GATEWAY, DRAWER = "vtserve-wfs@{}.service", "vtserve-wmts@{}.service"
+# Looks at all maps at once (`vtmap watch --maps`): where it is enabled, no map has a timer of its own for that.
+WATCH, WATCH_ALL = STARTED[2], "vtserve-watch-maps.timer"
 # What is done once at first: `vtmap watch` looks for both.
 FIRST = ("vtserve-publish@{}.service", "vtserve-backup@{}.service")
 OTHERS = (GATEWAY, DRAWER, "vtserve-log@{}.service", "vtserve-standby@{}.service")
@@ -131,7 +133,9 @@ class Machine:
 
     def start(self, one: MapHere, further: list[str]) -> None:
         """Starts what serves a map, now and with the machine. `further`: other units than each map has."""
-        self.systemctl("enable", "--now", *(unit.format(one.name) for unit in (*STARTED, *further)))
+        is_watched = subprocess.run(["systemctl", "--quiet", "is-enabled", WATCH_ALL], check=False).returncode == 0
+        units = [unit.format(one.name) for unit in (*STARTED, *further) if unit != WATCH or not is_watched]
+        self.systemctl("enable", "--now", *units)
         self.systemctl("start", "--no-block", *(unit.format(one.name) for unit in FIRST))
 
     def stop(self, name: str) -> None:
