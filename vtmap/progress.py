@@ -1,26 +1,31 @@
 """How far a command is that sends many changes, and a server that makes the tiles of a publication."""
 from __future__ import annotations
 
+import os
 import threading
 import time
 from collections.abc import Iterable, Iterator
 from typing import Any
 
 from .faults import Fault
+from .shown import shown
 
 EACH = 1000
 # How many seconds a publication is waited for before it is asked how far it is, and then between two such questions; and between two lines about
 # many rows. Fewer rows than `EACH` are told of only if they take long.
 PAUSE, LONG = 2, 10
+# A file of so many bytes takes seconds to be opened.
+LARGE = 32 * 2 ** 20
 
 
-def with_progress(changes: Iterable) -> Iterator:
-    """Passes on what `Client.make` yields, and prints a line for each thousand changes."""
+def with_progress(changes: Iterable, total: int | None = None) -> Iterator:
+    """Passes on what `Client.make` yields, and prints a line for each thousand changes. `total`: how many there will be."""
+    of = f" of {total:,}" if total else ""
     began = time.monotonic()
     for done, change in enumerate(changes, 1):
         yield change
         if done % EACH == 0:
-            print(f"        {done:,} sent so far, {done / max(time.monotonic() - began, 0.001):,.0f} a second", flush=True)
+            print(f"        {done:,}{of} sent so far, {done / max(time.monotonic() - began, 0.001):,.0f} a second", flush=True)
 
 
 def counted(rows: Iterable, what: str, total: int | None = None) -> Iterator:
@@ -33,6 +38,13 @@ def counted(rows: Iterable, what: str, total: int | None = None) -> Iterator:
         if now - told >= PAUSE and (done >= EACH or now - began >= LONG):
             told = now
             print(f"        {done:,}{of} {what}", flush=True)
+
+
+def tell_large(path: str) -> None:
+    """Says that a large file is opened: of some formats GDAL looks at all of it first."""
+    size = os.path.getsize(path) if os.path.isfile(path) else 0
+    if size >= LARGE:
+        print(f"        {shown(path)} is opened: {size / 2 ** 20:,.0f} MiB", flush=True)
 
 
 class Tiles:

@@ -1,6 +1,7 @@
 """Tests of what `vtmap import` and `update` look for in files that came short, without GDAL and without a server."""
 import argparse
 import io
+import tempfile
 import unittest
 from unittest import mock
 
@@ -70,6 +71,15 @@ class Counted(unittest.TestCase):
     def test_many_rows_are_told_every_two_seconds(self):
         self.assertEqual(self.lines(5000, 0.001), ["2,000 rows read", "4,000 rows read"])
         self.assertEqual(self.lines(2500, 0.001, 2500), ["2,000 of 2,500 rows read"])
+
+    def test_a_large_file_is_told_before_it_is_opened(self):
+        with tempfile.NamedTemporaryFile() as file, mock.patch("builtins.print") as printed:
+            file.truncate(32 * 2**20 - 1)
+            progress.tell_large(file.name)
+            self.assertFalse(printed.called)
+            file.truncate(512 * 2**20)
+            progress.tell_large(file.name)
+        self.assertEqual(printed.call_args.args, (f"        {file.name} is opened: 512 MiB",))
 
     def test_few_rows_are_told_only_if_they_take_long(self):
         self.assertEqual(self.lines(999, 0.009), [])

@@ -219,6 +219,10 @@ class Changes:
             if kind == GONE:
                 yield delete(number)._replace(was=self.there[number].body)
 
+    def count(self):
+        """How many changes are sent."""
+        return sum(kind in (NEW, CHANGED, GONE) for kind in self.kinds.values())
+
     def sizes(self, most):
         """The sums of what is sent, and the sectors of the journal that it takes."""
         room = self.plan.room

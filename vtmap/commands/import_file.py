@@ -130,7 +130,7 @@ def has_room(words, client, status, changes):
 
 def send(client, changes):
     """Sends the changes, and prints refusals and how far it is."""
-    for number, refusal in with_progress(changes.send(client)):
+    for number, refusal in with_progress(changes.send(client), changes.count()):
         if refusal:
             print(f"feature {number} refused: {refusal}", flush=True)
 

@@ -9,6 +9,7 @@ from osgeo import gdal, ogr, osr
 from ..geometry.shapes import Unfit
 from ..geometry.world import EARTH, HALF, WORLD
 from ..limits import MOST_TAG
+from ..progress import tell_large
 from ..shown import shown
 from . import cut_text, import_rules
 from .file_place import Place, Unreadable
@@ -79,6 +80,7 @@ class Reader:
         self.notes = Notes()
         self.place = Place(path)
         encoding = None if self.place.text is not None else encoding
+        tell_large(path)
         self.file, self.failure = opened(self.place.path, path, encoding, keeps_text=id_field == "id")
         self.kind = self.file.GetDriver().ShortName
         # The row of the feature that was read last, from 1 on in each layer, what is wrong with its polygons, and how many were read.
