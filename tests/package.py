@@ -18,10 +18,10 @@ import tempfile
 import time
 
 HERE = os.path.dirname(os.path.abspath(__file__))
-sys.path += [HERE, os.path.join(HERE, "clients")]
+sys.path.append(HERE)
 
 import documents  # noqa: E402
-from stand import Cases  # noqa: E402
+from clients.stand import Cases  # noqa: E402
 
 UNITS = "/usr/lib/systemd/system"
 FEATURE = '{"layer":"p","minzoom":0,"maxzoom":2,"geometry":{"points":[[0,0]]},"tags":{}}'

@@ -15,9 +15,9 @@ import time
 
 HERE = os.path.dirname(os.path.abspath(__file__))
 TOP = os.path.join(HERE, "..", "..")
-sys.path[:0] = [HERE, os.path.join(TOP, "tests", "clients"), TOP]
+sys.path[:0] = [HERE, os.path.join(TOP, "tests"), TOP]
 import city_features  # noqa: E402
-from stand import Server  # noqa: E402
+from clients.stand import Server  # noqa: E402
 from vtmap.client.client import FROM, PAGE, Client  # noqa: E402
 from vtmap.command_line import collect_rarely  # noqa: E402
 

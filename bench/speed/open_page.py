@@ -16,8 +16,8 @@ from collections import Counter
 
 MINUTES = float(sys.argv[2]) if len(sys.argv) > 2 else 3
 import feed  # noqa: E402
-from browser import Browser  # noqa: E402
-from stand import TOP, Nginx, Server  # noqa: E402
+from clients.browser import Browser  # noqa: E402
+from clients.stand import TOP, Nginx, Server  # noqa: E402
 
 WIDE, HIGH, ZOOM, FIRST = 1600, 900, 13, 90
 NGINX = shutil.which("nginx", path=os.environ.get("PATH", "") + ":/usr/sbin")

@@ -20,11 +20,11 @@ import time
 
 HERE = os.path.dirname(os.path.abspath(__file__))
 TOP = os.path.join(HERE, "..", "..")
-sys.path[:0] = [os.path.join(TOP, "tests", "clients"), TOP]
+sys.path[:0] = [os.path.join(TOP, "tests"), TOP]
 WEB = sys.argv[2] if len(sys.argv) > 2 else os.path.join(TOP, "web")
 POLYGONS = int(sys.argv[3]) if len(sys.argv) > 3 else 100000
-from browser import Browser  # noqa: E402
-from stand import Nginx, Server  # noqa: E402
+from clients.browser import Browser  # noqa: E402
+from clients.stand import Nginx, Server  # noqa: E402
 
 NGINX = shutil.which("nginx", path=os.environ.get("PATH", "") + ":/usr/sbin")
 WIDE, HIGH, ZOOM = 1600, 900, 15

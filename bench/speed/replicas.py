@@ -19,9 +19,9 @@ import time
 
 HERE = os.path.dirname(os.path.abspath(__file__))
 TOP = os.path.join(HERE, "..", "..")
-sys.path[:0] = [HERE, os.path.join(TOP, "tests", "clients")]
+sys.path[:0] = [HERE, os.path.join(TOP, "tests")]
 import city_features  # noqa: E402
-from stand import VTMAP, Nginx, Server, curl  # noqa: E402
+from clients.stand import VTMAP, Nginx, Server, curl  # noqa: E402
 
 SECONDS = float(sys.argv[2]) if len(sys.argv) > 2 else 8
 ZOOMS, REPLICAS, CONNECTIONS = (12, 13, 14, 15), 4, 16

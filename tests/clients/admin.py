@@ -3,7 +3,7 @@ import json
 import os
 import subprocess
 
-from stand import JSON, PROGRAM, SHOWN, VTMAP, Cases, Server, curl, feature, refusal, same, status_of, wanted
+from .stand import JSON, PROGRAM, SHOWN, VTMAP, Cases, Server, curl, feature, refusal, same, status_of, wanted
 
 STATUS = "/admin/status"
 FROM = "/admin/features/from/"

@@ -9,10 +9,10 @@ import re
 import shutil
 import subprocess
 
-from browser import Browser
-from gateways import Gateway, Gis, feature_at, point
-from page_tools import image
-from stand import SYSTEM_PYTHON, TOP, VTMAP, Nginx, Server, curl, feature, field, status_of
+from .browser import Browser
+from .gateways import Gateway, Gis, feature_at, point
+from .page_tools import image
+from .stand import SYSTEM_PYTHON, TOP, VTMAP, Nginx, Server, curl, feature, field, status_of
 
 JPEG, PNG = b"\xff\xd8\xff\xe0\0\x10JFIF" + b"\0" * 100, image((1, 2, 3))
 PDF, GIF, WEBP = b"%PDF-1.4\n" + b"x" * 100, b"GIF89a" + b"\0" * 50, b"RIFF\x20\0\0\0WEBPVP8 " + b"\0" * 20

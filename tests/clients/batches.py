@@ -10,8 +10,8 @@ import signal
 import subprocess
 import threading
 
-from import_stand import has_gdal, imported, row, shown, written
-from stand import JSON, PROGRAM, TEXT, VTMAP, Nginx, Server, curl, feature, refusal, same, status_of, wanted
+from .import_stand import has_gdal, imported, row, shown, written
+from .stand import JSON, PROGRAM, TEXT, VTMAP, Nginx, Server, curl, feature, refusal, same, status_of, wanted
 
 DELETE_LAYER = [*VTMAP, "delete-layer"]
 FULL = "no room for edits until the map is published: publish, and run the same command again, or give it --publish"

@@ -6,17 +6,15 @@ import os
 import shutil
 import sqlite3
 import subprocess
-import sys
 
-from between import Between
-from import_stand import has_gdal
-from stand import TOP, VTMAP, Server, curl, feature
-from updates import listed
+from vtmap.files import geopackage
+from vtmap.files.checkout_file import normal
+from vtmap.geometry.wholes import wholes_of
 
-sys.path.append(TOP)
-from vtmap.files import geopackage  # noqa: E402
-from vtmap.files.checkout_file import normal  # noqa: E402
-from vtmap.geometry.wholes import wholes_of  # noqa: E402
+from .between import Between
+from .import_stand import has_gdal
+from .stand import VTMAP, Server, curl, feature
+from .updates import listed
 
 EDITS = "/admin/edits"
 PAGE = "/admin/features/page/"

@@ -4,7 +4,7 @@ import re
 import shutil
 import subprocess
 
-from stand import BYTES, JSON, Server, archive, curl, feature, field, refusal, same, status_of, wanted
+from .stand import BYTES, JSON, Server, archive, curl, feature, field, refusal, same, status_of, wanted
 
 # What changes the map or publishes it, and is refused under a condition that names a tag.
 CHANGES = [("/features/7", "PUT"), ("/features/7", "DELETE"), ("/edits", "POST"), ("/publish", "POST"), ("/publish/begin", "POST"),

@@ -5,8 +5,8 @@ import os
 import sqlite3
 import subprocess
 
-from pages import town
-from stand import SYSTEM_PYTHON, VTMAP, Server, curl, status_of
+from .pages import town
+from .stand import SYSTEM_PYTHON, VTMAP, Server, curl, status_of
 
 QGIS = """
 import os, sys

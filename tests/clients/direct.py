@@ -9,7 +9,7 @@ import subprocess
 import threading
 import time
 
-from stand import Server, curl, feature, status_of
+from .stand import Server, curl, feature, status_of
 
 KEPT = 6
 IDLE = 64

@@ -8,10 +8,10 @@ import os
 import shutil
 import subprocess
 
-from between import Between, once
-from import_stand import has_gdal, row, written
-from stand import VTMAP, Server, curl, feature
-from updates import listed
+from .between import Between, once
+from .import_stand import has_gdal, row, written
+from .stand import VTMAP, Server, curl, feature
+from .updates import listed
 
 STATUS = "/admin/status"
 PAGE = b"<html>\r\n<head><title>nginx</title></head>\r\n</html>\r\n"

@@ -5,7 +5,7 @@ import subprocess
 import sys
 import time
 
-from stand import HERE, Nginx, Server, curl, feature, status_of
+from .stand import HERE, Nginx, Server, curl, feature, status_of
 
 
 def slow(front, address, more=""):

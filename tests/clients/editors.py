@@ -11,7 +11,7 @@ import random
 import threading
 from collections import Counter
 
-from stand import Server
+from .stand import Server
 
 FEATURES = range(1, 51)
 EDITS, TWICE = 1000, 300

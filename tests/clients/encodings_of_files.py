@@ -5,9 +5,9 @@ The files are made by ogr2ogr and by hand; wanted texts are those that were writ
 import os
 import subprocess
 
-from import_stand import has_gdal, imported, row, world, written
-from stand import Server
-from updates import listed
+from .import_stand import has_gdal, imported, row, world, written
+from .stand import Server
+from .updates import listed
 
 TEXTS = ["Café", "Fluß", "Straße Süd", "plain", "Grün"]
 GUESSED = "aren't UTF-8 and are read as cp1252"

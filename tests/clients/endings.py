@@ -9,8 +9,8 @@ import stat
 import subprocess
 import time
 
-from import_stand import has_gdal
-from stand import EXAMPLES, SYSTEM_PYTHON, VTMAP, Server, curl, feature, free_port
+from .import_stand import has_gdal
+from .stand import EXAMPLES, SYSTEM_PYTHON, VTMAP, Server, curl, feature, free_port
 
 SURVEY = os.path.join(EXAMPLES, "survey.geojson")
 WRONG = ["nonsense", "ftp://127.0.0.1", "http://", "http://127.0.0.1:x"]

@@ -10,9 +10,9 @@ import socket
 import threading
 from http.server import BaseHTTPRequestHandler, ThreadingHTTPServer
 
-from browser import Browser
-from gateways import GML, Gateway, Gis, edits_at, feature_at, point, put_at
-from stand import Server, curl, feature
+from .browser import Browser
+from .gateways import GML, Gateway, Gis, edits_at, feature_at, point, put_at
+from .stand import Server, curl, feature
 
 # Media types of a Transaction; and others, of which a page can send some without the browser asking first.
 TAKEN = ("text/xml", "text/xml; charset=UTF-8", "Application/XML", "application/gml+xml; version=3.2")

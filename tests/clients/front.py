@@ -8,8 +8,8 @@ import socket
 import subprocess
 import time
 
-from conditions import mirror
-from stand import BYTES, METADATA, MVT, SHOWN, TEXT, TILE, Nginx, Server, archive, curl, feature, field, status_of
+from .conditions import mirror
+from .stand import BYTES, METADATA, MVT, SHOWN, TEXT, TILE, Nginx, Server, archive, curl, feature, field, status_of
 
 
 def in_front(cases, folder):

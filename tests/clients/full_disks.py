@@ -3,8 +3,8 @@ import json
 import os
 import subprocess
 
-from import_stand import has_gdal, imported, point_rows, shown, written
-from stand import PROGRAM, Server, curl, feature, status_of
+from .import_stand import has_gdal, imported, point_rows, shown, written
+from .stand import PROGRAM, Server, curl, feature, status_of
 
 
 def disk_full(cases, folder):

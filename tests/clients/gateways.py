@@ -9,7 +9,7 @@ import urllib.request
 import xml.etree.ElementTree as tree
 from xml.sax.saxutils import escape
 
-from stand import VTMAP, curl, free_port, status_of
+from .stand import VTMAP, curl, free_port, status_of
 
 XML = "Content-Type: text/xml"
 GML = 'xmlns="http://www.opengis.net/wfs" xmlns:ogc="http://www.opengis.net/ogc" xmlns:gml="http://www.opengis.net/gml"'

@@ -13,8 +13,8 @@ import struct
 import threading
 import time
 
-from meanwhile import BEGIN, WHOLE, answer, has_begun, looked_at, status_of
-from stand import Server, curl, feature
+from .meanwhile import BEGIN, WHOLE, answer, has_begun, looked_at, status_of
+from .stand import Server, curl, feature
 
 # A map of more than 1,024 features, each with points in all tiles of zooms 0 and 1: each of these tiles is made by parts.
 FEATURES, BATCH, POINTS = 8192, 64, 30

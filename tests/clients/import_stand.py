@@ -9,7 +9,7 @@ import re
 import shutil
 import subprocess
 
-from stand import SYSTEM_PYTHON, VTMAP, curl, status_of
+from .stand import SYSTEM_PYTHON, VTMAP, curl, status_of
 
 WORLD = 2 ** 32
 

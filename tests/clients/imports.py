@@ -8,8 +8,8 @@ import subprocess
 import threading
 import time
 
-from import_stand import WORLD, features_between, has_gdal, import_of, imported, is_near, point_rows, row, shown, square, world, written
-from stand import Nginx, Server, curl, feature
+from .import_stand import WORLD, features_between, has_gdal, import_of, imported, is_near, point_rows, row, shown, square, world, written
+from .stand import Nginx, Server, curl, feature
 
 FORMATS = [
     ("GeoJSON", "p.json", []),

@@ -7,17 +7,15 @@ import json
 import os
 import random
 import subprocess
-import sys
 
-from import_stand import has_gdal
-from stand import HERE, PROGRAM, SYSTEM_PYTHON, TILE, TOP, VTMAP, Server, archive, curl, feature, status_of
+import archives as model
+import ids
+from map_archive import archive_of
+from wire import number, part
+from vtmap.archives import writing
 
-sys.path += [os.path.join(HERE, "..", "..", "model"), TOP]
-import archives as model  # noqa: E402
-import ids  # noqa: E402
-from map_archive import archive_of  # noqa: E402
-from wire import number, part  # noqa: E402
-from vtmap.archives import writing  # noqa: E402
+from .import_stand import has_gdal
+from .stand import HERE, PROGRAM, SYSTEM_PYTHON, TILE, VTMAP, Server, archive, curl, feature, status_of
 
 # The maps, the features of each, and how far maps are apart and overlap: so that some tiles belong to one, and others
 # to several.

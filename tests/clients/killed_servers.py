@@ -6,8 +6,8 @@ import signal
 import threading
 import time
 
-from import_stand import shown
-from stand import Nginx, Server, curl, feature, field, status_of
+from .import_stand import shown
+from .stand import Nginx, Server, curl, feature, field, status_of
 
 
 def editor(url, first, acknowledged, stop):

@@ -5,8 +5,8 @@ import os
 import re
 import subprocess
 
-from import_stand import area_of, estimated, features_between, has_gdal, imported, lists_of, round_ring, row, world, written
-from stand import HERE, SYSTEM_PYTHON, Server, curl
+from .import_stand import area_of, estimated, features_between, has_gdal, imported, lists_of, round_ring, row, world, written
+from .stand import HERE, SYSTEM_PYTHON, Server, curl
 
 
 def large(cases, folder):

@@ -2,17 +2,15 @@
 between, and where it can't be known whether one was made the script says so."""
 import os
 import shutil
-import sys
 
-from batches import edit_count
-from between import Between, once
-from import_stand import has_gdal, imported, row, written
-from stand import TOP, Server, curl
-from updates import listed, status
+from vtmap.client.client import Client
+from vtmap.client.edits import checked, delete, put
 
-sys.path.append(TOP)
-from vtmap.client.client import Client  # noqa: E402
-from vtmap.client.edits import checked, delete, put  # noqa: E402
+from .batches import edit_count
+from .between import Between, once
+from .import_stand import has_gdal, imported, row, written
+from .stand import Server, curl
+from .updates import listed, status
 
 EDITS, PLAIN, FEED = "/admin/edits", "/edits", "/admin/edits/from/"
 

@@ -4,9 +4,9 @@ import os
 import subprocess
 import time
 
-from browser import HIGH, WIDE, Browser
-from screens import PLOTLY, Share, water_differs
-from stand import VTMAP
+from .browser import HIGH, WIDE, Browser
+from .screens import PLOTLY, Share, water_differs
+from .stand import VTMAP
 
 # A stand-in for MapLibre: it keeps what it is given.
 STAND_IN = """

@@ -7,7 +7,7 @@ import select
 import socket
 import time
 
-from stand import JSON, Server, curl, feature, refusal, same, wanted
+from .stand import JSON, Server, curl, feature, refusal, same, wanted
 
 POINTS, BATCH = 4096, 32
 BEGIN = b"POST /publish/begin HTTP/1.1\r\nhost: x\r\n\r\n"

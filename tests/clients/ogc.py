@@ -4,17 +4,15 @@ import os
 import re
 import shutil
 import subprocess
-import sys
 import time
 
-from browser import Browser
-from gateways import Gateway, Gis, map_at, put_at, text_of
-from pages import town
-from stand import SYSTEM_PYTHON, TOP, VTMAP, Nginx, Server, curl, field, status_of
+from vtmap.geometry.geojson import feature_of
+from vtmap.geometry.wholes import twice_area
 
-sys.path.append(TOP)
-from vtmap.geometry.geojson import feature_of  # noqa: E402
-from vtmap.geometry.wholes import twice_area  # noqa: E402
+from .browser import Browser
+from .gateways import Gateway, Gis, map_at, put_at, text_of
+from .pages import town
+from .stand import SYSTEM_PYTHON, TOP, VTMAP, Nginx, Server, curl, field, status_of
 
 LEAFLET = "/usr/share/javascript/leaflet"
 EDITS = """

@@ -14,14 +14,13 @@ import sys
 import threading
 import time
 
-from between import Between
-from gateways import Gateway
-from import_stand import area_of, has_gdal, imported, lists_of, round_ring, row, world, written
-from stand import HERE, PROGRAM, TOP, VTMAP, Nginx, Server, archive, curl, feature, free_port, status_of
+import disk as model
+from vtmap.files import disk_file
 
-sys.path += [os.path.join(HERE, "..", "..", "model"), TOP]
-import disk as model  # noqa: E402
-from vtmap.files import disk_file  # noqa: E402
+from .between import Between
+from .gateways import Gateway
+from .import_stand import area_of, has_gdal, imported, lists_of, round_ring, row, world, written
+from .stand import HERE, PROGRAM, VTMAP, Nginx, Server, archive, curl, feature, free_port, status_of
 
 PUBLISH = [*VTMAP, "publish", "--url"]
 

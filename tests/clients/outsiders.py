@@ -13,8 +13,8 @@ import subprocess
 import threading
 import time
 
-from browser import Browser
-from stand import TOP, Nginx, Server, curl, feature, field, free_port, status_of
+from .browser import Browser
+from .stand import TOP, Nginx, Server, curl, feature, field, free_port, status_of
 
 KIND = ["-H", "Content-Type: application/json"]
 # What changes the map, or what is published, with the fields that a script sends.

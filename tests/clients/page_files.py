@@ -8,10 +8,10 @@ import shutil
 import subprocess
 import time
 
-from browser import HIGH, WIDE, Browser
-from page_hands import Hands
-from pages import LOSE, PAGE, REFUSE, WHILE
-from stand import SYSTEM_PYTHON, VTMAP, Nginx, Server, curl, feature, status_of
+from .browser import HIGH, WIDE, Browser
+from .page_hands import Hands
+from .pages import LOSE, PAGE, REFUSE, WHILE
+from .stand import SYSTEM_PYTHON, VTMAP, Nginx, Server, curl, feature, status_of
 
 JSON_FILE = {"type": "FeatureCollection", "features": [
     {"type": "Feature", "geometry": {"type": "Point", "coordinates": [7.5, 54.5, 3]}, "properties": {

@@ -11,10 +11,10 @@ import re
 import shutil
 import time
 
-from browser import CONTROL, HIGH, SHIFT, WIDE, Browser
-from page_tools import FEATURES, OPENED, PIXEL, SIDE, Tools, X, Y
-from pages import PAGE
-from stand import TOP, Nginx, Server, curl, feature, status_of
+from .browser import CONTROL, HIGH, SHIFT, WIDE, Browser
+from .page_tools import FEATURES, OPENED, PIXEL, SIDE, Tools, X, Y
+from .pages import PAGE
+from .stand import Nginx, Server, curl, feature, status_of
 
 # What of the page's own texts a person reads or hears: texts, and names of controls.
 HEARD = """(() => {

@@ -11,10 +11,10 @@ import re
 import shutil
 import subprocess
 
-from browser import Browser
-from import_stand import world
-from pages import PAGE
-from stand import Nginx, Server, curl, feature
+from .browser import Browser
+from .import_stand import world
+from .pages import PAGE
+from .stand import Nginx, Server, curl, feature
 
 # Where the map is, and units of the world for a metre there.
 LONGITUDE, LATITUDE = 7.5, 54.5

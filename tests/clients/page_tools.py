@@ -13,10 +13,10 @@ import threading
 import time
 import zlib
 
-from browser import HIGH, WIDE, Browser
-from import_stand import world
-from pages import PAGE, PLACE, People
-from stand import SYSTEM_PYTHON, VTMAP, Nginx, Server, curl, feature, field, status_of
+from .browser import HIGH, WIDE, Browser
+from .import_stand import world
+from .pages import PAGE, PLACE, People
+from .stand import SYSTEM_PYTHON, VTMAP, Nginx, Server, curl, feature, field, status_of
 
 # Where the map is: longitude and latitude, and the same in the world. A side of a parcel is 120 pixels of zoom 17.
 AT = (7.5, 54.5)

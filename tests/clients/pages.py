@@ -12,12 +12,12 @@ import subprocess
 import sys
 import time
 
-from browser import HIGH, WIDE, Browser
-from downloads import downloads
-from import_stand import world
-from maplibre import draw_truth, maplibre
-from screens import Share, water_differs
-from stand import EXAMPLES, SYSTEM_PYTHON, TOP, VTMAP, Nginx, Server, curl, feature, field, status_of
+from .browser import HIGH, WIDE, Browser
+from .downloads import downloads
+from .import_stand import world
+from .maplibre import draw_truth, maplibre
+from .screens import Share, water_differs
+from .stand import EXAMPLES, SYSTEM_PYTHON, TOP, VTMAP, Nginx, Server, curl, feature, field, status_of
 
 PAGE = os.path.join(TOP, "web")
 WORLD = 2 ** 32

@@ -12,7 +12,7 @@ import time
 import xml.etree.ElementTree as tree
 import zlib
 
-from stand import SYSTEM_PYTHON, TOP, VTMAP, Nginx, Server, curl, feature, field, free_port, status_of
+from .stand import SYSTEM_PYTHON, TOP, VTMAP, Nginx, Server, curl, feature, field, free_port, status_of
 
 PNG, CAPABILITIES, TILE = "image/png", "/wmts/1.0.0/WMTSCapabilities.xml", "/wmts/1.0.0/map/default/GoogleMapsCompatible"
 NAMES = {"": "{http://www.opengis.net/wmts/1.0}", "ows": "{http://www.opengis.net/ows/1.1}"}

@@ -2,7 +2,7 @@
 import json
 import socket
 
-from stand import JSON, Server, curl, feature, parsed, refusal, same, status_of, wanted
+from .stand import JSON, Server, curl, feature, parsed, refusal, same, status_of, wanted
 
 
 def methods(reply):

@@ -1,14 +1,13 @@
 """The part `replicas` of run.py: processes on one machine make the tiles of readers, by `vtmap replica`, the units of replicas and docs/nginx.conf. A
 stand-in for systemctl runs what the units run."""
-import json
 import os
 import shutil
 import signal
 import threading
 
-from several_maps import Here
-from standby import waited
-from stand import TOP, Nginx, Server, curl, feature, free_port, status_of
+from .several_maps import Here
+from .standby import waited
+from .stand import TOP, Nginx, Server, curl, feature, free_port, status_of
 
 TILE = "/map/0/0/0.mvt"
 

@@ -10,10 +10,10 @@ import sqlite3
 import statistics
 import subprocess
 
-from checkins import gis
-from import_stand import has_gdal, imported
-from stand import SYSTEM_PYTHON, Server
-from updates import listed
+from .checkins import gis
+from .import_stand import has_gdal, imported
+from .stand import SYSTEM_PYTHON, Server
+from .updates import listed
 
 # Writes the file, or prints what is to be compared: for each well the distance in metres between two files, and the types of a layer.
 WRITE = """

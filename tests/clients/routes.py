@@ -3,7 +3,7 @@ import os
 import re
 import subprocess
 
-from stand import BYTES, JSON, METADATA, MVT, PROGRAM, SHOWN, TEXT, TILE, Server, archive, curl, feature, refusal, same, status_of, wanted
+from .stand import BYTES, JSON, METADATA, MVT, PROGRAM, SHOWN, TEXT, TILE, Server, archive, curl, feature, refusal, same, status_of, wanted
 
 
 def routes(cases, folder):

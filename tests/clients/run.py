@@ -14,65 +14,66 @@ import shutil
 import sys
 import tempfile
 
-from admin import admin
-from attachments import attachments, page_photos
-from attachments import by_qgis as files_qgis
-from batches import batches
-from checkins import checkins
-from conditions import tags
-from desktop import desktop
-from direct import direct
-from doors import doors
-from editors import editors
-from encodings_of_files import encodings
-from endings import endings
-from foreign import foreign
-from front import in_front
-from full_disks import disk_full
-from hang_ups import hang_ups, shrinking
-from imports import imports
-from joins import joins
-from killed_servers import kills
-from large_imports import large
-from lost_replies import lost_replies
-from meanwhile import meanwhile
-from ogc import ogc
-from operation import operation
-from outsiders import outsiders
-from page_files import page_files
-from page_hands import page_hands
-from page_print import page_print
-from page_tools import page_tools
-from pages import page
-from pictures import by_qgis, wmts
-from refusals import refused_features, refused_requests
-from replicas import replicas
-from round_trips import round_trips
-from routes import routes
-from running import full, kept_connections, restarts
-from schemas import schema
-from screens import screens
-from several_maps import maps
-from short_files import short_files
-from stand import Cases
-from standards import standards
-from standby import long_follow, standby
-from steps import steps
-from surveys import gdal
-from takeover import takeover
-from three_ways import three_ways
-from toolbox import toolbox
-from trail import trail
-from tries import tries
-from units import units
-from updates import updates
-from wfs import wfs
-from wfs_deaths import wfs_deaths
-from wfs_hostile import wfs_hostile
-from wfs_qgis import wfs_qgis
-from wfs_random import wfs_random
-from wfs_tables import wfs_tables
-from windows import windows
+sys.path[0] = os.path.join(os.path.dirname(os.path.abspath(__file__)), "..")
+from clients.admin import admin  # noqa: E402
+from clients.attachments import attachments, page_photos  # noqa: E402
+from clients.attachments import by_qgis as files_qgis  # noqa: E402
+from clients.batches import batches  # noqa: E402
+from clients.checkins import checkins  # noqa: E402
+from clients.conditions import tags  # noqa: E402
+from clients.desktop import desktop  # noqa: E402
+from clients.direct import direct  # noqa: E402
+from clients.doors import doors  # noqa: E402
+from clients.editors import editors  # noqa: E402
+from clients.encodings_of_files import encodings  # noqa: E402
+from clients.endings import endings  # noqa: E402
+from clients.foreign import foreign  # noqa: E402
+from clients.front import in_front  # noqa: E402
+from clients.full_disks import disk_full  # noqa: E402
+from clients.hang_ups import hang_ups, shrinking  # noqa: E402
+from clients.imports import imports  # noqa: E402
+from clients.joins import joins  # noqa: E402
+from clients.killed_servers import kills  # noqa: E402
+from clients.large_imports import large  # noqa: E402
+from clients.lost_replies import lost_replies  # noqa: E402
+from clients.meanwhile import meanwhile  # noqa: E402
+from clients.ogc import ogc  # noqa: E402
+from clients.operation import operation  # noqa: E402
+from clients.outsiders import outsiders  # noqa: E402
+from clients.page_files import page_files  # noqa: E402
+from clients.page_hands import page_hands  # noqa: E402
+from clients.page_print import page_print  # noqa: E402
+from clients.page_tools import page_tools  # noqa: E402
+from clients.pages import page  # noqa: E402
+from clients.pictures import by_qgis, wmts  # noqa: E402
+from clients.refusals import refused_features, refused_requests  # noqa: E402
+from clients.replicas import replicas  # noqa: E402
+from clients.round_trips import round_trips  # noqa: E402
+from clients.routes import routes  # noqa: E402
+from clients.running import full, kept_connections, restarts  # noqa: E402
+from clients.schemas import schema  # noqa: E402
+from clients.screens import screens  # noqa: E402
+from clients.several_maps import maps  # noqa: E402
+from clients.short_files import short_files  # noqa: E402
+from clients.stand import Cases  # noqa: E402
+from clients.standards import standards  # noqa: E402
+from clients.standby import long_follow, standby  # noqa: E402
+from clients.steps import steps  # noqa: E402
+from clients.surveys import gdal  # noqa: E402
+from clients.takeover import takeover  # noqa: E402
+from clients.three_ways import three_ways  # noqa: E402
+from clients.toolbox import toolbox  # noqa: E402
+from clients.trail import trail  # noqa: E402
+from clients.tries import tries  # noqa: E402
+from clients.units import units  # noqa: E402
+from clients.updates import updates  # noqa: E402
+from clients.wfs import wfs  # noqa: E402
+from clients.wfs_deaths import wfs_deaths  # noqa: E402
+from clients.wfs_hostile import wfs_hostile  # noqa: E402
+from clients.wfs_qgis import wfs_qgis  # noqa: E402
+from clients.wfs_random import wfs_random  # noqa: E402
+from clients.wfs_tables import wfs_tables  # noqa: E402
+from clients.windows import windows  # noqa: E402
 
 
 def main():

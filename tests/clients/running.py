@@ -4,7 +4,7 @@ import signal
 import socket
 import time
 
-from stand import BYTES, JSON, TEXT, TILE, Server, archive, curl, feature, parsed, refusal, same, status_of, wanted
+from .stand import BYTES, JSON, TEXT, TILE, Server, archive, curl, feature, parsed, refusal, same, status_of, wanted
 
 
 def full(cases, folder):

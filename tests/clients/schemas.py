@@ -6,11 +6,11 @@ import shutil
 import sqlite3
 import subprocess
 
-from gateways import Gateway, Gis, edits_at, feature_at, map_at, point
-from import_stand import has_gdal
-from pages import town
-from stand import VTMAP, Nginx, Server, curl, field, status_of
-from wfs_tables import columns, layers
+from .gateways import Gateway, Gis, edits_at, feature_at, map_at, point
+from .import_stand import has_gdal
+from .pages import town
+from .stand import VTMAP, Nginx, Server, curl, field, status_of
+from .wfs_tables import columns, layers
 
 JSON = ["-H", "Content-Type: application/json"]
 

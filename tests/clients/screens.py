@@ -15,7 +15,7 @@ import subprocess
 import sys
 import time
 
-from stand import EXAMPLES, HALF, SYSTEM_PYTHON, VTMAP, Server, curl, feature
+from .stand import EXAMPLES, HALF, SYSTEM_PYTHON, VTMAP, Server, curl, feature
 
 PLOTLY = "/usr/share/python3-plotly/plotly.js"
 WIDE, HIGH = 768, 512

@@ -15,8 +15,8 @@ import sys
 import tempfile
 import time
 
-from pictures import Drawer, has_cairo
-from stand import HERE, PROGRAM, TILE, TOP, VTMAP, Nginx, Server, curl, feature, field, free_port, status_of
+from .pictures import Drawer, has_cairo
+from .stand import HERE, PROGRAM, TILE, TOP, VTMAP, Nginx, Server, curl, feature, field, free_port, status_of
 
 TIMED = ("publish", "watch", "backup")
 STARTED = "enable --now vtserve@{0}.service" + "".join(f" vtserve-{name}@{{0}}.timer" for name in TIMED)

@@ -9,10 +9,10 @@ import shutil
 import subprocess
 import zipfile
 
-from between import Between
-from import_stand import has_gdal, imported, is_near, row, shown, square, world, written
-from stand import Server, archive, curl, feature
-from updates import listed, status
+from .between import Between
+from .import_stand import has_gdal, imported, is_near, row, shown, square, world, written
+from .stand import Server, archive, curl, feature
+from .updates import listed, status
 
 HEAD, LAST = "nr,name,lon,lat\n", "9003,Pump,7.505,54.502\n"
 # Files of 300 points that GDAL writes, and which of them is cut. Cut in the middle GDAL reads a part of each, and most

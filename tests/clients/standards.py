@@ -8,9 +8,9 @@ import re
 import subprocess
 import xml.etree.ElementTree as tree
 
-from gateways import XML, Gateway, feature_at, text_of
-from pages import town
-from stand import SYSTEM_PYTHON, Server, curl, field, status_of
+from .gateways import XML, Gateway, feature_at, text_of
+from .pages import town
+from .stand import SYSTEM_PYTHON, Server, curl, field, status_of
 
 WFS, FES, OWS = "http://www.opengis.net/wfs/2.0", "http://www.opengis.net/fes/2.0", "http://www.opengis.net/ows/1.1"
 BY_ID = "urn:ogc:def:query:OGC-WFS::GetFeatureById"

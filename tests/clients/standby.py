@@ -9,15 +9,13 @@ import random
 import shutil
 import signal
 import subprocess
-import sys
 import threading
 import time
 
-from between import Between
-from stand import PROGRAM, TOP, VTMAP, Server, curl, feature
+from vtmap.client.client import Client
 
-sys.path.append(TOP)
-from vtmap.client.client import Client  # noqa: E402
+from .between import Between
+from .stand import PROGRAM, VTMAP, Server, curl, feature
 
 EDITS = 10_000
 # The edits between two publications, and between two kills of one of the three processes.

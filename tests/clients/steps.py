@@ -4,7 +4,7 @@ import os
 import signal
 import subprocess
 
-from stand import JSON, VTMAP, Server, curl, feature, refusal, same, wanted
+from .stand import JSON, VTMAP, Server, curl, feature, refusal, same, wanted
 
 
 def steps(cases, folder):

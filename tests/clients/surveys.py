@@ -6,7 +6,7 @@ import re
 import shutil
 import subprocess
 
-from stand import EXAMPLES, HALF, SYSTEM_PYTHON, VTMAP, Server, curl, status_of
+from .stand import EXAMPLES, HALF, SYSTEM_PYTHON, VTMAP, Server, curl, status_of
 
 
 def world(longitude, latitude):

@@ -7,9 +7,9 @@ import signal
 import subprocess
 import time
 
-from several_maps import Here
-from standby import Editor, copied, features, follow, known, once, waited
-from stand import TOP, VTMAP, Nginx, Server, curl, feature, free_port, status_of
+from .several_maps import Here
+from .standby import Editor, copied, features, follow, known, once, waited
+from .stand import TOP, VTMAP, Nginx, Server, curl, feature, free_port, status_of
 
 # The edits before the machine dies, and the seconds between two of them.
 BEFORE, BETWEEN = 150, 0.02

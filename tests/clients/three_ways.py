@@ -5,9 +5,9 @@ import os
 import shutil
 import subprocess
 
-from import_stand import has_gdal, imported, row, square, written
-from stand import SYSTEM_PYTHON, VTMAP, Server, curl, feature
-from updates import listed, status
+from .import_stand import has_gdal, imported, row, square, written
+from .stand import SYSTEM_PYTHON, VTMAP, Server, curl, feature
+from .updates import listed, status
 
 WORDS = ["--layer", "p", "--id", "nr", "--update", "--delete-missing"]
 

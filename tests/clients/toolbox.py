@@ -6,12 +6,11 @@ import shutil
 import subprocess
 import sys
 
-from between import Between
-from import_stand import has_gdal, row, written
-from stand import EXAMPLES, TOP, VTMAP, Nginx, Server, curl, feature
+from vtmap.client.client import Client
 
-sys.path.append(TOP)
-from vtmap.client.client import Client  # noqa: E402
+from .between import Between
+from .import_stand import has_gdal, row, written
+from .stand import EXAMPLES, TOP, VTMAP, Nginx, Server, curl, feature
 
 NAMES = ["try", "import", "update", "checkout", "checkin", "wfs", "wmts", "files", "schema", "save", "load", "publish", "join", "watch", "maps", "replica", "takeover",
          "delete-layer", "qgis", "follow", "log", "undo", "draw"]

@@ -7,10 +7,10 @@ import shutil
 import subprocess
 import time
 
-from gateways import Gateway, Gis
-from import_stand import has_gdal, imported, row, written
-from standby import features, follow, known, waited
-from stand import VTMAP, Nginx, Server, curl, status_of
+from .gateways import Gateway, Gis
+from .import_stand import has_gdal, imported, row, written
+from .standby import features, follow, known, waited
+from .stand import VTMAP, Nginx, Server, curl, status_of
 
 PEOPLE = [
     ("# satisfy any;", "satisfy any;"),

@@ -8,10 +8,10 @@ import socket
 import subprocess
 import time
 
-from gateways import Gateway
-from import_stand import has_gdal
-from pictures import has_cairo
-from stand import PROGRAM, TOP, VTMAP, Nginx, Server, curl, feature, field, free_port, status_of
+from .gateways import Gateway
+from .import_stand import has_gdal
+from .pictures import has_cairo
+from .stand import PROGRAM, TOP, VTMAP, Nginx, Server, curl, feature, field, free_port, status_of
 
 JSON, TEXT = "Content-Type: application/json", "Content-Type: text/plain;charset=json"
 FEATURE, BATCH = feature(), '{"changes":[]}'

@@ -10,9 +10,9 @@ import socket
 import subprocess
 import time
 
-from gateways import Gateway, Gis, triangle
-from pictures import Drawer, has_cairo
-from stand import PROGRAM, TOP, VTMAP, Server, curl, feature, free_port, status_of
+from .gateways import Gateway, Gis, triangle
+from .pictures import Drawer, has_cairo
+from .stand import PROGRAM, TOP, VTMAP, Server, curl, feature, free_port, status_of
 
 # The greatest exposure of each unit, by systemd-analyze.
 EXPOSURE = {

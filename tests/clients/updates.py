@@ -10,9 +10,9 @@ import subprocess
 import time
 from collections import Counter
 
-from between import Between, once
-from import_stand import has_gdal, import_of, imported, is_near, row, shown, square, world, written
-from stand import Server, curl, feature, status_of
+from .between import Between, once
+from .import_stand import has_gdal, import_of, imported, is_near, row, shown, square, world, written
+from .stand import Server, curl, feature, status_of
 
 EDITS = "/admin/edits"
 

@@ -6,10 +6,10 @@ import re
 import threading
 import time
 
-from between import Between, once
-from gateways import GML, XML, Gateway, Gis, edits_at, feature_at, map_at, point, put_at, text_of, triangle
-from pages import town
-from stand import HALF, Server, curl, field, status_of
+from .between import Between, once
+from .gateways import GML, XML, Gateway, Gis, edits_at, feature_at, map_at, point, put_at, text_of, triangle
+from .pages import town
+from .stand import HALF, Server, curl, field, status_of
 
 EDITS = "/admin/edits"
 LAYERS = ["building.areas", "land.areas", "park.areas", "place.points", "road.lines"]

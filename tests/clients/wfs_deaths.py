@@ -7,10 +7,10 @@ import subprocess
 import threading
 import time
 
-from between import Between
-from gateways import Gateway, Gis, edits_at, feature_at, map_at, point, put_at, text_of
-from pages import town
-from stand import VTMAP, Server, curl, feature, free_port
+from .between import Between
+from .gateways import Gateway, Gis, edits_at, feature_at, map_at, point, put_at, text_of
+from .pages import town
+from .stand import VTMAP, Server, curl, feature, free_port
 
 EDITS = "/admin/edits"
 # 200 features are four edits.

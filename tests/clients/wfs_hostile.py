@@ -8,7 +8,6 @@ import re
 import signal
 import socket
 import subprocess
-import sys
 import threading
 import time
 import urllib.parse
@@ -16,12 +15,11 @@ import xml.etree.ElementTree as tree
 from types import SimpleNamespace
 from unittest import mock
 
-from gateways import GML, Gateway, Gis, edits_at, feature_at, map_at, point, put_at, text_of
-from import_stand import has_gdal
-from stand import TOP, VTMAP, Server, curl, feature, field, status_of
+from vtmap.gateway import filters, live_map, sessions, tables, wfs, wfs_texts
 
-sys.path.append(TOP)
-from vtmap.gateway import filters, live_map, sessions, tables, wfs, wfs_texts  # noqa: E402
+from .gateways import GML, Gateway, Gis, edits_at, feature_at, map_at, point, put_at, text_of
+from .import_stand import has_gdal
+from .stand import VTMAP, Server, curl, feature, field, status_of
 
 LAYER, TAG, VALUE = "p\"><script>'&", 'k" onload="<x>', "]]></a><script>1</script>&\"'\x0b"
 FORGED = "p\n2026-11-29 12:00:00  1  anna  deleted p 1\x1b[2J\x9b2J"

@@ -5,10 +5,10 @@ import os
 import shutil
 import subprocess
 
-from desktop import run
-from gateways import Gateway, edits_at, feature_at, map_at, put_at
-from pages import town
-from stand import SYSTEM_PYTHON, VTMAP, Nginx, Server
+from .desktop import run
+from .gateways import Gateway, edits_at, feature_at, map_at, put_at
+from .pages import town
+from .stand import SYSTEM_PYTHON, VTMAP, Nginx, Server
 
 QGIS = """
 import json, os, sys, urllib.request

@@ -5,8 +5,8 @@ import json
 import os
 import random
 
-from gateways import Gateway, Gis, map_at, point
-from stand import Server, curl
+from .gateways import Gateway, Gis, map_at, point
+from .stand import Server, curl
 
 STEPS, SEED = 160, 29
 TAGS = ("a", "b")

@@ -3,9 +3,9 @@ restart too, and most of a layer is deleted only by who says so twice."""
 import os
 import re
 
-from gateways import XML, Gateway, Gis, edits_at, feature_at, map_at, point, text_of
-from pages import town
-from stand import Server, curl
+from .gateways import XML, Gateway, Gis, edits_at, feature_at, map_at, point, text_of
+from .pages import town
+from .stand import Server, curl
 
 
 def wfs_tables(cases, folder):

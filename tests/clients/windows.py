@@ -9,12 +9,11 @@ import subprocess
 import sys
 import urllib.request
 
-from import_stand import has_gdal, row, written
-from stand import HERE, SYSTEM_PYTHON, TOP, Server, curl, feature, free_port
+from vtmap.command_line import COMMANDS
+from vtmap.systems import LOCKED
 
-sys.path.append(TOP)
-from vtmap.command_line import COMMANDS  # noqa: E402
-from vtmap.systems import LOCKED  # noqa: E402
+from .import_stand import has_gdal, row, written
+from .stand import HERE, SYSTEM_PYTHON, TOP, Server, curl, feature, free_port
 
 STAND_IN = [SYSTEM_PYTHON, os.path.join(HERE, "windows_stand_in.py")]
 # A name that cp1252 hasn't got, and one that isn't even in one unit of UTF-16.
