@@ -12,6 +12,7 @@ test("files: a path, or an address that ends in one", () => {
 });
 test("files: what isn't one", () => {
     const others = [`files/${HASH}.svg`, `files/${HASH}.html`, `files/${HASH.slice(1)}.jpg`, `files/${HASH}.jpg.html`, `javascript:alert(1)//files/${HASH}.jpg`,
+        `javascript://x/files/${HASH}.jpg`, `data://x/files/${HASH}.jpg`,
         `files/../files/${HASH}.jpg`, `//evil.example/files/${HASH}.jpg`, `https://a b/files/${HASH}.jpg`, "photo.jpg", "", 7, true, null, undefined];
     others.forEach(value => assert.equal(fileOf(value), null, String(value)));
 });
