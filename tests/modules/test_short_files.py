@@ -8,7 +8,9 @@ from unittest import mock
 import stand  # noqa: F401
 from vtmap import progress
 from vtmap.commands import deletions
+from vtmap.faults import Fault
 from vtmap.files.cut_text import fault_of
+from vtmap.interpreters import has
 
 TABLE = b'nr,name,lon,lat\n1,Well,7.495,54.501\n2,"Pump, old",7.505,54.502\n'
 
@@ -56,6 +58,23 @@ class Deletions(unittest.TestCase):
     def test_what_is_neither(self):
         for text in ("", "ten", "-1", "110%", "10 %", "1e3"):
             self.assertRaises(argparse.ArgumentTypeError, deletions.most, text)
+
+
+@unittest.skipUnless(has("osgeo"), "no GDAL for this Python")
+class GdalFile(unittest.TestCase):
+    def read(self, is_whole):
+        """What is read of a layer of which GDAL raises, as newer ones do, after its first feature."""
+        from vtmap.files.gdal_file import Reader
+
+        reader = Reader.__new__(Reader)
+        reader.path, reader.is_whole = "f.gml", is_whole
+        layer = mock.Mock(GetNextFeature=mock.Mock(side_effect=["a feature", RuntimeError("unclosed token")]))
+        return list(reader.features_of(layer))
+
+    def test_a_cut_file_of_which_gdal_raises(self):
+        with self.assertRaisesRegex(Fault, "seems to be cut: after row 1 GDAL says 'unclosed token'. Get all of it"):
+            self.read(False)
+        self.assertEqual(self.read(True), ["a feature"])
 
 
 class Counted(unittest.TestCase):

@@ -134,7 +134,12 @@ class Reader:
         """Each feature of a layer. Of a file that ends early GDAL returns those before, and says so beside them."""
         for read in itertools.count():
             gdal.ErrorReset()
-            feature = layer.GetNextFeature()
+            try:
+                feature = layer.GetNextFeature()
+            except RuntimeError as fault:
+                # As GDAL 3.7 and newer ones say it, which return no feature after that.
+                self.refuse(f"after row {read:,} GDAL says {str(fault)!r}")
+                return
             if gdal.GetLastErrorType() >= gdal.CE_Failure:
                 self.refuse(f"after row {read:,} GDAL says {gdal.GetLastErrorMsg()!r}")
             if feature is None:
