@@ -154,6 +154,10 @@ def by_a_command(cases, folder):
         closed = waited(lambda: status_of(curl(front.url + "/features/9", "-X", "DELETE")) == 503)
         readers = status_of(curl(front.url + "/features/1")), status_of(curl(front.url + "/map/0/0/0.mvt"))
         cases.show("takeover: nobody edits the standby by its nginx, and readers read", (closed, readers), (True, (200, 200)))
+        looks = [*VTMAP, "watch", "--url", leader.url, "--standby", front.url, "--wait", "0.2"]
+        child = subprocess.run(looks, capture_output=True, text=True)
+        cases.show("takeover: the first machine looks at it by its nginx", (child.returncode, child.stdout.splitlines()),
+                   (0, ["1 features, edit 1, generation 0: nothing to do"]))
         here.calls()
         cases.show("takeover: without nginx.conf", here.vtmap(*words), (1, [f"there is no {front_file}: copy that of the first machine"]))
         shutil.copy(os.path.join(TOP, "docs", "nginx.conf"), front_file)
