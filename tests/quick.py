@@ -55,7 +55,8 @@ def page_of(name):
 
 
 # How scripts that aren't vtmap's are looked at: they run on the gate's Python alone.
-TYPED = ["--python-version", "3.11", "--disallow-untyped-defs", "--cache-dir", os.devnull]
+UNKEPT = ["--cache-dir", os.devnull]
+TYPED = ["--python-version", "3.11", "--disallow-untyped-defs", *UNKEPT]
 SCRIPTS = ["tests/page_lists.py", "tests/crate_names.py", "tests/promises.py"]
 
 # The longest ones first, so that no processor waits at the end.
@@ -79,7 +80,8 @@ PARTS = [
     page_of("docs/COMMANDS.md"),
     page_of("README.md"),
     Part("types-of-scripts", ["mypy", *TYPED, *SCRIPTS, "tools/floors.py"], ("mypy",)),
-    Part("types", ["mypy", "--config-file", "tests/mypy.ini", "--cache-dir", os.devnull, "vtmap"], ("mypy",)),
+    Part("types", ["mypy", "--config-file", "tests/mypy.ini", *UNKEPT, "vtmap"], ("mypy",)),
+    Part("types-of-clients", ["mypy", "--config-file", "tests/clients/mypy.ini", *UNKEPT, "-p", "clients"], ("mypy",)),
     client("routes"),
     client("tags"),
     client("foreign"),

@@ -23,7 +23,7 @@ def script(name, *words):
     return child.returncode, (child.stdout + child.stderr).splitlines()
 
 
-def admin(cases: Cases, folder):
+def admin(cases: Cases, folder: str) -> None:
     without(cases, folder)
     with Server(folder, "admin", more=["--admin"]) as server:
         statuses(cases, server)
@@ -33,7 +33,7 @@ def admin(cases: Cases, folder):
     piped(cases, folder)
 
 
-def without(cases, folder):
+def without(cases: Cases, folder: str) -> None:
     with Server(folder, "public", more=()) as server:
         for path in (STATUS, FROM + "0"):
             for method in ("GET", "POST", "DELETE"):
@@ -101,7 +101,7 @@ def saved(cases, folder, server):
         cases.show("back-up: a line is the server's own reply", lines.readline(), f'{{"feature":{SHOWN},"id":2}}\n')
 
 
-def piped(cases, folder):
+def piped(cases: Cases, folder: str) -> None:
     """`pipe` and `demo` have the option too."""
     sent = f"GET {STATUS} HTTP/1.0\r\n\r\n".encode()
     small = {"area": {"sectors": 22, "used": 0}, "journal": {"places": 16, "used": 0}, "sectors": 64}

@@ -12,7 +12,7 @@ import subprocess
 from .browser import Browser
 from .gateways import Gateway, Gis, feature_at, point
 from .page_tools import image
-from .stand import SYSTEM_PYTHON, TOP, VTMAP, Nginx, Server, curl, feature, field, status_of
+from .stand import SYSTEM_PYTHON, TOP, VTMAP, Cases, Nginx, Server, curl, feature, field, status_of
 
 JPEG, PNG = b"\xff\xd8\xff\xe0\0\x10JFIF" + b"\0" * 100, image((1, 2, 3))
 PDF, GIF, WEBP = b"%PDF-1.4\n" + b"x" * 100, b"GIF89a" + b"\0" * 50, b"RIFF\x20\0\0\0WEBPVP8 " + b"\0" * 20
@@ -54,7 +54,7 @@ def ran(*words, status=0):
     return lines if child.returncode == status else [f"status {child.returncode}", *lines]
 
 
-def attachments(cases, folder):
+def attachments(cases: Cases, folder: str) -> None:
     """All of it."""
     folder = os.path.join(folder, "files")
     os.mkdir(folder)
@@ -272,7 +272,7 @@ os._exit(0)
 """
 
 
-def by_qgis(cases, folder):
+def by_qgis(cases: Cases, folder: str) -> None:
     """QGIS's attachment widget, in the project of `vtmap qgis --edit`: the part `files-qgis`."""
     nginx = shutil.which("nginx", path=os.environ.get("PATH", "") + ":/usr/sbin")
     if not nginx or subprocess.run([SYSTEM_PYTHON, "-c", "import qgis.gui"], capture_output=True, check=False).returncode:
@@ -297,7 +297,7 @@ def by_qgis(cases, folder):
 # ---- the page
 
 
-def page_photos(cases, folder):
+def page_photos(cases: Cases, folder: str) -> None:
     """The page sends and shows photos: the part `page-photos`."""
     nginx = shutil.which("nginx", path=os.environ.get("PATH", "") + ":/usr/sbin")
     if not (nginx and shutil.which("chromium")):

@@ -11,7 +11,7 @@ import subprocess
 import threading
 
 from .import_stand import has_gdal, imported, row, shown, written
-from .stand import JSON, PROGRAM, TEXT, VTMAP, Nginx, Server, curl, feature, refusal, same, status_of, wanted
+from .stand import JSON, PROGRAM, TEXT, VTMAP, Cases, Nginx, Server, curl, feature, refusal, same, status_of, wanted
 
 DELETE_LAYER = [*VTMAP, "delete-layer"]
 FULL = "no room for edits until the map is published: publish, and run the same command again, or give it --publish"
@@ -53,7 +53,7 @@ def tool(words, url):
 
 # ---- the route
 
-def accepted(cases, folder):
+def accepted(cases: Cases, folder: str) -> None:
     """Batches are one edit each, with all of their changes, and are there after kill -9."""
     with Server(folder, "batched", 4096) as server:
         same(cases, "batches: two features", sent(server, batch(put(7), put(8))), wanted(200, JSON, '{"edit":1}'))
@@ -74,7 +74,7 @@ def accepted(cases, folder):
         same(cases, "batches: the next edit", sent(server, batch(delete(8))), wanted(200, JSON, '{"edit":5}'))
 
 
-def refused(cases, folder):
+def refused(cases: Cases, folder: str) -> None:
     """Each word of a batch that isn't taken."""
     whole = json.loads(feature())
     long = [put(number, geometry={"points": [[0, 0]] * 2100}) for number in (1, 2)]
@@ -115,7 +115,7 @@ def points(count, **tags):
     return [row("Point", [at / 100, at / 100], name=f"point {at}", **tags) for at in range(count)]
 
 
-def imports_in_batches(cases, folder):
+def imports_in_batches(cases: Cases, folder: str) -> None:
     """An import is as many edits as it has batches; a feature that is refused doesn't keep the others from the map."""
     path = written(folder, "batched.geojson", points(150))
     words = ["--layer", "p", "--maxzoom", "0"]
@@ -155,7 +155,7 @@ def imports_in_batches(cases, folder):
         cases.show("batches: load into an empty map of an id that is there twice", found, ("later", 1))
 
 
-def limits(cases, folder):
+def limits(cases: Cases, folder: str) -> None:
     """Batches are as large as a request may be, and no larger: a refused one would be an edit for each feature."""
     long = points(70, text="x" * 950)
     wide = [row("MultiPoint", [[10 + at / 1000 + near / 1000000, 50] for near in range(280)]) for at in range(20)]
@@ -167,7 +167,7 @@ def limits(cases, folder):
             cases.show(f"batches: {name}", (status, lines[-1], edit_count(server) - before), (0, f"{len(rows)} taken, 0 refused", count))
 
 
-def full_journals(cases, folder):
+def full_journals(cases: Cases, folder: str) -> None:
     """A journal of 64 sectors, for batches of 17 (128 or 129 bytes a point): it is filled one by one, or published."""
     path = written(folder, "full_journal.geojson", points(64, text="x" * 80))
     words = ["--layer", "p", "--maxzoom", "0"]
@@ -211,7 +211,7 @@ class WithoutBatches(http.server.BaseHTTPRequestHandler):
         pass
 
 
-def without_batches(cases, folder):
+def without_batches(cases: Cases, folder: str) -> None:
     """A server that knows no batches: the import says so once, and puts one by one. A disk of version 1 takes neither batches nor checked edits."""
     path = written(folder, "seventy.geojson", points(70))
     words = ["--layer", "p", "--maxzoom", "0", "--first", "1"]
@@ -267,7 +267,7 @@ class Forgets(http.server.BaseHTTPRequestHandler):
         pass
 
 
-def deleted_by_others(cases):
+def deleted_by_others(cases: Cases) -> None:
     """A batch that deletes what isn't there any more is done one by one, and nothing is refused."""
     with http.server.HTTPServer(("127.0.0.1", 0), Forgets) as server:
         server.asked = []
@@ -278,7 +278,7 @@ def deleted_by_others(cases):
         cases.show("batches: what was asked for it", server.asked, ["GET"] * 4 + ["POST"] * 2 + ["DELETE"] * 3)
 
 
-def deleted(cases, folder):
+def deleted(cases: Cases, folder: str) -> None:
     """Whole layers are deleted, by the list of the server or by their ids: 55 by an edit."""
     with Server(folder, "deleted_layers", 4096) as server:
         for layer, first in (("a", 0), ("b", 64), ("a", 128)):
@@ -293,7 +293,7 @@ def deleted(cases, folder):
         cases.show("batches: vtmap delete-layer --no-batches", (gone, edit_count(server)), ((0, ["57 features of b deleted"]), 6 + 1 + 57))
 
 
-def behind_nginx(cases, folder):
+def behind_nginx(cases: Cases, folder: str) -> None:
     """nginx in front takes batches from this machine, and as JSON only."""
     nginx = shutil.which("nginx", path=os.environ.get("PATH", "") + ":/usr/sbin")
     if not nginx:
@@ -333,7 +333,7 @@ def behind_nginx(cases, folder):
     shutil.rmtree(front.folder)
 
 
-def batches(cases, folder):
+def batches(cases: Cases, folder: str) -> None:
     """Batches, by hand and by the scripts."""
     accepted(cases, folder)
     refused(cases, folder)

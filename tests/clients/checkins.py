@@ -13,7 +13,7 @@ from vtmap.geometry.wholes import wholes_of
 
 from .between import Between
 from .import_stand import has_gdal
-from .stand import VTMAP, Server, curl, feature
+from .stand import VTMAP, Cases, Server, curl, feature
 from .updates import listed
 
 EDITS = "/admin/edits"
@@ -98,7 +98,7 @@ class Desk:
         return {number: name for number, name in found.items() if not str(name).startswith("old")}
 
 
-def refused_before(cases, folder):
+def refused_before(cases: Cases, folder: str) -> None:
     """A new feature that was refused has an id that is noted; another new one is added."""
     with Server(folder, "refused_before") as server:
         desk = Desk(folder, "refused_before", server)
@@ -111,7 +111,7 @@ def refused_before(cases, folder):
         cases.show("checkins: and the file has nothing more to send", desk.checkin()[1:], (QUIET, [QUIET]))
 
 
-def noted_twice(cases, folder):
+def noted_twice(cases: Cases, folder: str) -> None:
     """Files in which an earlier program noted one id for two rows."""
     with Server(folder, "noted_twice") as server:
         desk = Desk(folder, "noted_twice", server)
@@ -135,7 +135,7 @@ def noted_twice(cases, folder):
         cases.show("checkins: is made", desk.names(), {4: "first", 5: "second"})
 
 
-def taken_meanwhile(cases, folder):
+def taken_meanwhile(cases: Cases, folder: str) -> None:
     """Somebody else takes the next free id after the server told it, before its features are listed."""
     with Server(folder, "taken_meanwhile") as server:
         desk = Desk(folder, "taken_meanwhile", server)
@@ -150,7 +150,7 @@ def taken_meanwhile(cases, folder):
         cases.show("checkins: an id that others take meanwhile", (code, desk.names()), (0, {4: "theirs", 5: "mine"}))
 
 
-def lost_reply(cases, folder):
+def lost_reply(cases: Cases, folder: str) -> None:
     """A new feature was made, and no reply said so."""
     with Server(folder, "lost_reply") as server:
         desk = Desk(folder, "lost_reply", server)
@@ -174,7 +174,7 @@ def lost_reply(cases, folder):
         cases.show("checkins: a new feature is deleted again", (desk.checkin()[:2], desk.names()), (wanted, {4: "mine again", 5: "at last"}))
 
 
-def changed_by_others(cases, folder):
+def changed_by_others(cases: Cases, folder: str) -> None:
     """Somebody else has changed a new feature whose reply was lost: theirs stays."""
     with Server(folder, "changed_by_others") as server:
         desk = Desk(folder, "changed_by_others", server)
@@ -185,7 +185,7 @@ def changed_by_others(cases, folder):
         cases.show("checkins: an id that others have by now", (desk.checkin()[0], desk.names()), (0, {4: "theirs", 5: "mine again"}))
 
 
-def earlier_file(cases, folder):
+def earlier_file(cases: Cases, folder: str) -> None:
     """A file that an earlier program checked out, with the id of a feature that was made: it has no table of what was sent."""
     with Server(folder, "earlier_file") as server:
         desk = Desk(folder, "earlier_file", server)
@@ -202,7 +202,7 @@ def islands(server):
     return sorted((feature["tags"]["name"], normal(feature["geometry"])) for feature in wholes)
 
 
-def large(cases, folder):
+def large(cases: Cases, folder: str) -> None:
     """A new feature that is cut into pieces. The reply to the first request is lost, which had all of them, or some."""
     old = ("old area", normal(square(1000)))
     for name, side in (("one request", 300000), ("several requests", 1500000)):
@@ -219,7 +219,7 @@ def large(cases, folder):
                 cases.show("checkins: and the file has nothing more to send", desk.checkin()[1:], (QUIET, [QUIET]))
 
 
-def leftovers(cases, folder):
+def leftovers(cases: Cases, folder: str) -> None:
     """Somebody else's piece has the id 2^40 above the next free one, which a piece of a new feature would have."""
     piece = feature("area-outline", 12, 16, {"lines": [[[0, 0], [9, 9]]]}, {"name": "old piece", "whole": 5})
     with Server(folder, "leftovers", 65536) as server:
@@ -232,7 +232,7 @@ def leftovers(cases, folder):
         cases.show("checkins: which stays", listed(server)[5 + 2 ** 40], json.loads(piece))
 
 
-def checkins(cases, folder):
+def checkins(cases: Cases, folder: str) -> None:
     """New features, each made once."""
     place = os.path.join(folder, "checkins")
     os.mkdir(place)

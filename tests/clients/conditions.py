@@ -4,14 +4,14 @@ import re
 import shutil
 import subprocess
 
-from .stand import BYTES, JSON, Server, archive, curl, feature, field, refusal, same, status_of, wanted
+from .stand import BYTES, JSON, Cases, Server, archive, curl, feature, field, refusal, same, status_of, wanted
 
 # What changes the map or publishes it, and is refused under a condition that names a tag.
 CHANGES = [("/features/7", "PUT"), ("/features/7", "DELETE"), ("/edits", "POST"), ("/publish", "POST"), ("/publish/begin", "POST"),
            ("/publish/cancel", "POST"), ("/admin/edits", "POST")]
 
 
-def tags(cases, folder):
+def tags(cases: Cases, folder: str) -> None:
     """Entity tags and conditions, with --etags."""
     with Server(folder, "tags", more=["--admin", "--etags"]) as server:
         url = server.url

@@ -6,7 +6,7 @@ import sqlite3
 import subprocess
 
 from .pages import town
-from .stand import SYSTEM_PYTHON, VTMAP, Server, curl, status_of
+from .stand import SYSTEM_PYTHON, VTMAP, Cases, Server, curl, status_of
 
 QGIS = """
 import os, sys
@@ -98,7 +98,7 @@ def gis(*words):
     return told.returncode, (told.stdout + told.stderr).splitlines()
 
 
-def desktop(cases, folder):
+def desktop(cases: Cases, folder: str) -> None:
     if subprocess.run([SYSTEM_PYTHON, "-c", "import qgis.core, osgeo"], capture_output=True).returncode != 0:
         cases.say("no QGIS or no GDAL in the system's Python: no desktop GIS is tried")
         return

@@ -9,7 +9,7 @@ import subprocess
 import threading
 import time
 
-from .stand import Server, curl, feature, status_of
+from .stand import Cases, Server, curl, feature, status_of
 
 KEPT = 6
 IDLE = 64
@@ -64,7 +64,7 @@ def fetched(port, paths):
     return found, time.monotonic() - began, sum(mine.opened for mine in kept), sum(mine.lost for mine in kept)
 
 
-def direct(cases, folder):
+def direct(cases: Cases, folder: str) -> None:
     with Server(folder, "direct") as server:
         corners = [[0, 0], [WORLD, 0], [WORLD, WORLD], [0, WORLD]]
         text = feature(last=3, geometry={"polygons": [[corners]]})
@@ -108,7 +108,7 @@ def direct(cases, folder):
     broken_and_busy(cases, folder)
 
 
-def broken_and_busy(cases, folder):
+def broken_and_busy(cases: Cases, folder: str) -> None:
     """A disk whose syncs fail, by strace, while a kept connection asks without a pause: the process ends all the same."""
     if not shutil.which("strace"):
         cases.say("direct: no strace: no sync fails")

@@ -10,7 +10,7 @@ import subprocess
 
 from .between import Between, once
 from .import_stand import has_gdal, row, written
-from .stand import VTMAP, Server, curl, feature
+from .stand import VTMAP, Cases, Server, curl, feature
 from .updates import listed
 
 STATUS = "/admin/status"
@@ -48,7 +48,7 @@ def editing(cases, folder):
     return commands, file
 
 
-def answered_by_others(cases, folder):
+def answered_by_others(cases: Cases, folder: str) -> None:
     """A proxy answers when the scripts ask whether the server has --admin: nothing is sent."""
     commands, file = editing(cases, folder)
     with Server(folder, "doors") as server:
@@ -64,7 +64,7 @@ def answered_by_others(cases, folder):
         cases.show("doors: the map is as it was", listed(server), {7: json.loads(OURS)})
 
 
-def unavailable(cases, folder):
+def unavailable(cases: Cases, folder: str) -> None:
     """What vtmap watch says of a 503: of the server itself, and of a proxy in front of it."""
     with Server(folder, "unavailable") as server:
         for content, said in ((b"Memory\n", "the server is out of memory"), (PAGE, "the proxy in front of the server answers, but the server doesn't")):
@@ -73,7 +73,7 @@ def unavailable(cases, folder):
             cases.show(f"doors: vtmap watch, {said}", (code, said in told or told), (2, True))
 
 
-def without_admin(cases, folder):
+def without_admin(cases: Cases, folder: str) -> None:
     """The server says itself that it has no /admin/: a map is edited, and a note says that nothing is checked. If it has one later, it isn't."""
     commands, _ = editing(cases, folder)
     load, imports = commands[0], commands[3:]
@@ -91,7 +91,7 @@ def without_admin(cases, folder):
         cases.show("doors: the map is as it was, again", listed(server), {7: json.loads(OURS)})
 
 
-def publications(cases, folder):
+def publications(cases: Cases, folder: str) -> None:
     """A layer is to be deleted, for which the map has to be published first, and a proxy answers that: nothing is deleted unchecked."""
     with Server(folder, "narrow", 64) as server:
         changes = [{"put": number, "feature": json.loads(OURS)} for number in range(60)]
@@ -103,7 +103,7 @@ def publications(cases, folder):
         cases.show("doors: vtmap delete-layer and a 502 of a publication", (code, REPLIES[502] in told, len(listed(server))), (1, True, 60))
 
 
-def passwords(cases, folder):
+def passwords(cases: Cases, folder: str) -> None:
     """A proxy asks for a name and a password: they are in the URL or in the environment, and each request has them."""
     saved, file, project = (os.path.join(folder, name) for name in ("secret.jsonl", "secret.gpkg", "secret.qgs"))
     wanted = "Basic " + base64.b64encode(f"ann:{PASSWORD}".encode()).decode()
@@ -153,7 +153,7 @@ def published(url, record):
         return code, told, said.read()
 
 
-def publish_script(cases, folder):
+def publish_script(cases: Cases, folder: str) -> None:
     """A publication, and a proxy that refuses a step, or answers none."""
     record = os.path.join(folder, "record")
     with Server(folder, "publish", 16384) as server:
@@ -185,7 +185,7 @@ def publish_script(cases, folder):
         cases.show("doors: publish, and steps whose replies are lost", (code, told.splitlines()[-1], '"published"' in kept), (0, "published", True))
 
 
-def doors(cases, folder):
+def doors(cases: Cases, folder: str) -> None:
     """Proxies that answer for the server."""
     place = os.path.join(folder, "doors")
     os.mkdir(place)

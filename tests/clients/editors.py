@@ -11,7 +11,7 @@ import random
 import threading
 from collections import Counter
 
-from .stand import Server
+from .stand import Cases, Server
 
 FEATURES = range(1, 51)
 EDITS, TWICE = 1000, 300
@@ -97,7 +97,7 @@ def checked(notes, last):
     return faults, {number: feature for number, feature in now.items() if feature is not None}
 
 
-def editors(cases, folder):
+def editors(cases: Cases, folder: str) -> None:
     """Three clients at once, and a check of their notes, which has to find faults in notes that have some."""
     with Server(folder, "edited", 65536) as server:
         three = [Editor(server.port, "one", EDITS), Editor(server.port, "two", EDITS), Editor(server.port, "twice", TWICE, 2)]

@@ -6,7 +6,7 @@ import os
 import subprocess
 
 from .import_stand import has_gdal, imported, row, world, written
-from .stand import Server
+from .stand import Cases, Server
 from .updates import listed
 
 TEXTS = ["Café", "Fluß", "Straße Süd", "plain", "Grün"]
@@ -110,7 +110,7 @@ def tables(cases, folder, server):
     cases.show("encodings: a number with separators of thousands is refused, and one without a place is none", found, (1, True, ["b"]))
 
 
-def encodings(cases, folder):
+def encodings(cases: Cases, folder: str) -> None:
     """Files in the encodings of offices."""
     if not has_gdal(cases):
         return

@@ -10,7 +10,7 @@ import subprocess
 import time
 
 from .import_stand import has_gdal
-from .stand import EXAMPLES, SYSTEM_PYTHON, VTMAP, Server, curl, feature, free_port
+from .stand import EXAMPLES, SYSTEM_PYTHON, VTMAP, Cases, Server, curl, feature, free_port
 
 SURVEY = os.path.join(EXAMPLES, "survey.geojson")
 WRONG = ["nonsense", "ftp://127.0.0.1", "http://", "http://127.0.0.1:x"]
@@ -74,7 +74,7 @@ def interrupted(words):
     return child.returncode, (told + faults).splitlines()
 
 
-def without_a_server(cases, folder):
+def without_a_server(cases: Cases, folder: str) -> None:
     """No server, and no address of one."""
     url = f"http://127.0.0.1:{free_port()}"
     for status, words in commands(cases, folder):
@@ -155,7 +155,7 @@ def wrong_paths(cases, folder, url):
         cases.show("endings: that file is as it was", file.read(), '{"mine": 1}')
 
 
-def endings(cases, folder):
+def endings(cases: Cases, folder: str) -> None:
     without_a_server(cases, folder)
     with Server(folder, "endings") as server:
         curl(server.url + "/features/7", "-X", "PUT", body=feature())

@@ -12,7 +12,7 @@ from http.server import BaseHTTPRequestHandler, ThreadingHTTPServer
 
 from .browser import Browser
 from .gateways import GML, Gateway, Gis, edits_at, feature_at, point, put_at
-from .stand import Server, curl, feature
+from .stand import Cases, Server, curl, feature
 
 # Media types of a Transaction; and others, of which a page can send some without the browser asking first.
 TAKEN = ("text/xml", "text/xml; charset=UTF-8", "Application/XML", "application/gml+xml; version=3.2")
@@ -22,7 +22,7 @@ ROUTES = ("/wfs", "/wfs/0123456789", "/ogc/collections/p.points/items", "/")
 COUNT = itertools.count()
 
 
-def foreign(cases, folder):
+def foreign(cases: Cases, folder: str) -> None:
     """All of it."""
     folder = os.path.join(folder, "foreign")
     os.mkdir(folder)

@@ -9,10 +9,10 @@ import subprocess
 import time
 
 from .conditions import mirror
-from .stand import BYTES, METADATA, MVT, SHOWN, TEXT, TILE, Nginx, Server, archive, curl, feature, field, status_of
+from .stand import BYTES, METADATA, MVT, SHOWN, TEXT, TILE, Cases, Nginx, Server, archive, curl, feature, field, status_of
 
 
-def in_front(cases, folder):
+def in_front(cases: Cases, folder: str) -> None:
     """nginx in front: what it passes, what it keeps, what it refuses."""
     nginx = shutil.which("nginx", path=os.environ.get("PATH", "") + ":/usr/sbin")
     if not nginx:
@@ -171,7 +171,7 @@ def archive_in_front(cases, url):
         cases.show(f"nginx: HEAD of it under if-none-match: {value}", (status_of(reply), field(reply, "etag"), reply[2]), (status, tag, b""))
 
 
-def passwords(cases, folder):
+def passwords(cases: Cases, folder: str) -> None:
     """The block of nginx.conf with passwords: people log in from anywhere, this machine needn't, and the map stays public."""
     nginx = shutil.which("nginx", path=os.environ.get("PATH", "") + ":/usr/sbin")
     if not (nginx and shutil.which("openssl")):

@@ -4,10 +4,10 @@ import os
 import subprocess
 
 from .import_stand import has_gdal, imported, point_rows, shown, written
-from .stand import PROGRAM, Server, curl, feature, status_of
+from .stand import PROGRAM, Cases, Server, curl, feature, status_of
 
 
-def disk_full(cases, folder):
+def disk_full(cases: Cases, folder: str) -> None:
     """A disk of 32 MiB on a file system of 1 MiB, which has no room for its journal, and of 9 MiB, which has none for the areas: `format`
     fails in the first; in the second what is acknowledged is kept, the failure is seen, and edits go on after it."""
     small = os.path.join(folder, "small_system")

@@ -14,7 +14,7 @@ import threading
 import time
 
 from .meanwhile import BEGIN, WHOLE, answer, has_begun, looked_at, status_of
-from .stand import Server, curl, feature
+from .stand import Cases, Server, curl, feature
 
 # A map of more than 1,024 features, each with points in all tiles of zooms 0 and 1: each of these tiles is made by parts.
 FEATURES, BATCH, POINTS = 8192, 64, 30
@@ -324,7 +324,7 @@ class Stand:
         self.others_are_served("after the editor")
 
 
-def hang_ups(cases, folder):
+def hang_ups(cases: Cases, folder: str) -> None:
     """Clients that are gone keep nobody from large tiles and publications."""
     with Server(folder, "hang-ups", 65536) as server:
         stand = Stand(cases, folder, server)
@@ -362,7 +362,7 @@ def crowd(port, count):
             send(key.fileobj)
 
 
-def shrinking(cases, folder):
+def shrinking(cases: Cases, folder: str) -> None:
     """A map comes down to 1,024 features while a large tile is made and another client waits for its own, and grows again. Neither of the two asks
     any more; another large tile is wanted beside twenty editors."""
     far = feature("far", 5, 5, {"points": [[1, 5]]})

@@ -9,7 +9,7 @@ import threading
 import time
 
 from .import_stand import WORLD, features_between, has_gdal, import_of, imported, is_near, point_rows, row, shown, square, world, written
-from .stand import Nginx, Server, curl, feature
+from .stand import Cases, Nginx, Server, curl, feature
 
 FORMATS = [
     ("GeoJSON", "p.json", []),
@@ -186,7 +186,7 @@ def through_nginx(cases, folder, server):
     shutil.rmtree(front.folder)
 
 
-def imports(cases, folder):
+def imports(cases: Cases, folder: str) -> None:
     """Each file format and each case of an import, on one server; then full journals, full areas and an interruption."""
     if not has_gdal(cases):
         return
@@ -198,7 +198,7 @@ def imports(cases, folder):
     interrupted(cases, folder)
 
 
-def stops(cases, folder):
+def stops(cases: Cases, folder: str) -> None:
     """A map that its disk can't publish: the import stops at once."""
     rows = [row("Point", [at / 10, at / 10], name=f"{at} " + "x" * 900) for at in range(200)]
     path = written(folder, "stops.geojson", rows)
@@ -237,7 +237,7 @@ class Refuses(http.server.BaseHTTPRequestHandler):
         pass
 
 
-def too_many(cases, folder):
+def too_many(cases: Cases, folder: str) -> None:
     """A stand-in for a server that has too many tiles: 131,072 entries would take minutes to make."""
     path = written(folder, "many.geojson", [row("Point", [at, at]) for at in range(9)])
     with http.server.HTTPServer(("127.0.0.1", 0), Refuses) as server:
@@ -250,7 +250,7 @@ def too_many(cases, folder):
         cases.show("import: --publish stops at TooManyTiles", (status, stopped, asked), (1, True, ["POST /edits", "POST /publish/begin"]))
 
 
-def interrupted(cases, folder):
+def interrupted(cases: Cases, folder: str) -> None:
     """An import that is interrupted, and run again, beside one that isn't."""
     corners = [(0, 0), (0.02, 0), (0.02, 0.02), (0, 0.02), (0, 0)]
     rows = [row("Polygon", [[[at % 400 / 5 + x, 10 + at // 400 + y] for x, y in corners]], name=str(at)) for at in range(1200)]

@@ -15,7 +15,7 @@ from wire import number, part
 from vtmap.archives import writing
 
 from .import_stand import has_gdal
-from .stand import HERE, PROGRAM, SYSTEM_PYTHON, TILE, VTMAP, Server, archive, curl, feature, status_of
+from .stand import HERE, PROGRAM, SYSTEM_PYTHON, TILE, VTMAP, Cases, Server, archive, curl, feature, status_of
 
 # The maps, the features of each, and how far maps are apart and overlap: so that some tiles belong to one, and others
 # to several.
@@ -61,7 +61,7 @@ def features_of(chance, at):
     return found
 
 
-def regions(cases, folder):
+def regions(cases: Cases, folder: str) -> None:
     """Maps that have some tiles in common, beside the map of all."""
     chance = random.Random(7)
     maps = [features_of(chance, at) for at in range(MAPS)]
@@ -99,7 +99,7 @@ def refused(cases, name, folder, words, said):
     cases.show(f"join: {name}, nothing is left", sorted(part for part in os.listdir(folder) if part.startswith("kept") or "tmp" in part), ["kept.pmtiles"])
 
 
-def shared_ids(cases, folder):
+def shared_ids(cases: Cases, folder: str) -> None:
     """Two maps with a feature of one id."""
     first, second = kept(folder, "first.pmtiles", archive()), kept(folder, "second.pmtiles", archive_of({7: json.loads(SECOND)}))
     refused(cases, "ids that two maps share are refused", folder, [first, second],
@@ -132,7 +132,7 @@ def layered(layer=b"", tile_id=0, **header):
     return maker.archive([maker.tile(tile_id, 1, content)], metadata=b'{"vector_layers":[{"id":"p","fields":{}}]}', **header)
 
 
-def bad_archives(cases, folder):
+def bad_archives(cases: Cases, folder: str) -> None:
     """Files that can't be joined."""
     good, made = kept(folder, "good.pmtiles", archive()), archive()
     point = number(3, 1) + part(4, bytes([9, 0, 0]))
@@ -172,7 +172,7 @@ def bad_archives(cases, folder):
     cases.show("join: a server that doesn't answer", joined("http://127.0.0.1:9", os.path.join(folder, "none.pmtiles"))[0], 3)
 
 
-def empty_archives(cases, folder):
+def empty_archives(cases: Cases, folder: str) -> None:
     """Archives without tiles."""
     empty = kept(folder, "empty.pmtiles", model.Maker().archive([], metadata=b'{"vector_layers":[]}'))
     good, out = kept(folder, "good.pmtiles", archive()), os.path.join(folder, "with_empty.pmtiles")
@@ -193,7 +193,7 @@ def many(first, count, run=1):
     return maker.archive(root, metadata=b'{"vector_layers":[]}', clustered=1)
 
 
-def many_entries(cases, folder):
+def many_entries(cases: Cases, folder: str) -> None:
     """More entries than one map may have, and runs that others cut."""
     base, count = ids.id_of(12, 0, 0), 70_000
     paths = [kept(folder, f"many{at}.pmtiles", many(base + at * count, count)) for at in range(2)]
@@ -226,7 +226,7 @@ def many_entries(cases, folder):
                (True, {8}, 20_000))
 
 
-def addresses(cases, folder):
+def addresses(cases: Cases, folder: str) -> None:
     """Archives of servers."""
     with Server(folder, "joined", 4096) as server:
         curl(server.url + "/features/7", "-X", "PUT", body=feature())
@@ -237,7 +237,7 @@ def addresses(cases, folder):
         cases.show("join: that of its archive", (joined(server.url + "/map.pmtiles", out, "--replace")[0], read(out) == archive()), (0, True))
 
 
-def country(cases, folder):
+def country(cases: Cases, folder: str) -> None:
     """`vtmap publish --join`, into an object store that is a folder."""
     stored, record = os.path.join(folder, "store"), os.path.join(folder, "published")
     os.mkdir(stored)
@@ -287,7 +287,7 @@ def tool_status(*words):
     return subprocess.run([*VTMAP, *words], capture_output=True).returncode
 
 
-def joins(cases, folder):
+def joins(cases: Cases, folder: str) -> None:
     """The archives, as they are joined and as they are refused."""
     folder = os.path.join(folder, "joins")
     os.mkdir(folder)

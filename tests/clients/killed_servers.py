@@ -7,7 +7,7 @@ import threading
 import time
 
 from .import_stand import shown
-from .stand import Nginx, Server, curl, feature, field, status_of
+from .stand import Cases, Nginx, Server, curl, feature, field, status_of
 
 
 def editor(url, first, acknowledged, stop):
@@ -32,7 +32,7 @@ def editor(url, first, acknowledged, stop):
     return number
 
 
-def kills(cases, folder):
+def kills(cases: Cases, folder: str) -> None:
     """Four times `kill -9` while a client edits, a publication in between; and tiles through nginx meanwhile."""
     nginx = shutil.which("nginx", path=os.environ.get("PATH", "") + ":/usr/sbin")
     acknowledged, last, port = {}, 0, None

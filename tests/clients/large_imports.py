@@ -6,10 +6,10 @@ import re
 import subprocess
 
 from .import_stand import area_of, estimated, features_between, has_gdal, imported, lists_of, round_ring, row, world, written
-from .stand import HERE, SYSTEM_PYTHON, Server, curl
+from .stand import HERE, SYSTEM_PYTHON, Cases, Server, curl
 
 
-def large(cases, folder):
+def large(cases: Cases, folder: str) -> None:
     """A parish of 3 km, a county of 50 km with a lake, a line of 300 km with two points, a river of 6,001: cut, and right in each tile."""
     if not has_gdal(cases):
         return
@@ -78,7 +78,7 @@ def large(cases, folder):
     a_second_time(cases, folder)
 
 
-def a_second_time(cases, folder):
+def a_second_time(cases: Cases, folder: str) -> None:
     """A file that fits on its disk once: what was published last is counted."""
     rows = [row("Point", [at / 10, at / 10], name=f"{at} " + "x" * 1000) for at in range(250)]
     path = written(folder, "second.geojson", rows)

@@ -9,7 +9,7 @@ from vtmap.client.edits import checked, delete, put
 from .batches import edit_count
 from .between import Between, once
 from .import_stand import has_gdal, imported, row, written
-from .stand import Server, curl
+from .stand import Cases, Server, curl
 from .updates import listed, status
 
 EDITS, PLAIN, FEED = "/admin/edits", "/edits", "/admin/edits/from/"
@@ -24,7 +24,7 @@ def point(name):
     return {"layer": "p", "minzoom": 0, "maxzoom": 2, "geometry": {"points": [[7, 7]]}, "tags": {"name": name}}
 
 
-def unchecked(cases, folder):
+def unchecked(cases: Cases, folder: str) -> None:
     """An import into a server without --admin: the reply to a batch is lost on a connection that is kept."""
     path = written(folder, "unchecked.geojson", points(150))
     with Server(folder, "unchecked", more=()) as server:
@@ -39,7 +39,7 @@ def unchecked(cases, folder):
         cases.show("lost replies: three batches are three edits", (code, lines[-1], edit_count(server)), (0, "150 taken, 0 refused", 3))
 
 
-def deleted_meanwhile(cases, folder):
+def deleted_meanwhile(cases: Cases, folder: str) -> None:
     """A creation is made, its reply is lost, and somebody deletes the feature before the script has asked."""
     path = written(folder, "deleted.geojson", points(10))
     words = ["--layer", "p", "--first", "1"]
@@ -65,7 +65,7 @@ def deleted_meanwhile(cases, folder):
             cases.show(f"lost replies: and what is told, {name}", (code, any(told in line for line in lines)), (0 if has_feed else 3, True))
 
 
-def by_the_client(cases, folder):
+def by_the_client(cases: Cases, folder: str) -> None:
     """Each kind of edit: made and lost, not made and lost, and on a connection that the server has closed meanwhile."""
     with Server(folder, "by_the_client", 65536) as server:
         def made(name, changes, wanted, edits, is_made=True, has_feed=True):
@@ -109,7 +109,7 @@ def by_the_client(cases, folder):
         cases.show("lost replies: a connection that has ended before", (refusals, sorted(listed(server))), ([], [1, 9]))
 
 
-def lost_replies(cases, folder):
+def lost_replies(cases: Cases, folder: str) -> None:
     """Edits without replies."""
     place = os.path.join(folder, "lost_replies")
     os.mkdir(place)

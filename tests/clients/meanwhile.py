@@ -7,7 +7,7 @@ import select
 import socket
 import time
 
-from .stand import JSON, Server, curl, feature, refusal, same, wanted
+from .stand import JSON, Cases, Server, curl, feature, refusal, same, wanted
 
 POINTS, BATCH = 4096, 32
 BEGIN = b"POST /publish/begin HTTP/1.1\r\nhost: x\r\n\r\n"
@@ -78,7 +78,7 @@ def status_of(server):
     return json.loads(curl(server.url + "/admin/status")[2])
 
 
-def whole(cases, folder):
+def whole(cases: Cases, folder: str) -> None:
     """A whole publication, which is prepared so too, and then written by steps between other replies."""
     with Server(folder, "whole", 65536) as server:
         fill(server)
@@ -148,7 +148,7 @@ def has_begun(found):
     return found[-1:] != [] and found[-1] is not None
 
 
-def written(cases, folder):
+def written(cases: Cases, folder: str) -> None:
     """A whole publication whose steps are made between other replies, beside other calls of a publication, and one whose asker goes away."""
     with Server(folder, "written", 65536) as server:
         fill_large(server)
@@ -218,7 +218,7 @@ def both_tiles(server, paths):
     return found, right
 
 
-def large_tile(cases, folder):
+def large_tile(cases: Cases, folder: str) -> None:
     """Tiles of more than 2 MiB of the archive, which are read by parts beside each other and beside edits elsewhere."""
     paths = ["/map/1/0/0.mvt", "/map/2/0/0.mvt"]
     with Server(folder, "large_tile", 65536) as server:
@@ -245,7 +245,7 @@ def large_tile(cases, folder):
     os.remove(server.disk)
 
 
-def meanwhile(cases, folder):
+def meanwhile(cases: Cases, folder: str) -> None:
     """Publications that are prepared by a tile at a time, between which edits and looks are answered, and large tiles that are read by parts."""
     begun(cases, folder)
     whole(cases, folder)
@@ -253,7 +253,7 @@ def meanwhile(cases, folder):
     large_tile(cases, folder)
 
 
-def begun(cases, folder):
+def begun(cases: Cases, folder: str) -> None:
     """A publication by steps, whose beginning is prepared so."""
     with Server(folder, "meanwhile", 65536) as server:
         same(cases, "4,096 points", fill(server), wanted(200, JSON, f'{{"edit":{POINTS // BATCH}}}'))

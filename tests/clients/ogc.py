@@ -12,7 +12,7 @@ from vtmap.geometry.wholes import twice_area
 from .browser import Browser
 from .gateways import Gateway, Gis, map_at, put_at, text_of
 from .pages import town
-from .stand import SYSTEM_PYTHON, TOP, VTMAP, Nginx, Server, curl, field, status_of
+from .stand import SYSTEM_PYTHON, TOP, VTMAP, Cases, Nginx, Server, curl, field, status_of
 
 LEAFLET = "/usr/share/javascript/leaflet"
 EDITS = """
@@ -30,7 +30,7 @@ print(json.dumps([places.SetFeature(named["School"]), places.CreateFeature(new),
 PLACES = ["Town Hall", "Church", "School", "Harbour", "Lighthouse"]
 
 
-def ogc(cases, folder):
+def ogc(cases: Cases, folder: str) -> None:
     """All of it."""
     folder = os.path.join(folder, "ogc")
     os.mkdir(folder)

@@ -20,7 +20,7 @@ from vtmap.files import disk_file
 from .between import Between
 from .gateways import Gateway
 from .import_stand import area_of, has_gdal, imported, lists_of, round_ring, row, world, written
-from .stand import HERE, PROGRAM, VTMAP, Nginx, Server, archive, curl, feature, free_port, status_of
+from .stand import HERE, PROGRAM, VTMAP, Cases, Nginx, Server, archive, curl, feature, free_port, status_of
 
 PUBLISH = [*VTMAP, "publish", "--url"]
 
@@ -61,7 +61,7 @@ def crowded(server, more):
     return curl(server.url + "/publish", "-X", "POST")[2]
 
 
-def rooms(cases, folder):
+def rooms(cases: Cases, folder: str) -> None:
     """Layers are deleted on a map that can't be published, with a journal that is nearly full, and while a publication is under way."""
     blind = "Features are deleted without looking at them again"
     with Server(folder, "rooms", 1024) as server:
@@ -89,7 +89,7 @@ def rooms(cases, folder):
 
 # ---- watching
 
-def touched(cases, folder):
+def touched(cases: Cases, folder: str) -> None:
     """What `vtmap watch` says of an area that is nearly full, once edits have touched little or much of the map since the last publication."""
     with Server(folder, "touched", 1024) as server:
         fill(server, range(1, 91))
@@ -112,7 +112,7 @@ def touched(cases, folder):
         cases.show("operation: vtmap watch, once they are published", "the next publication may not fit" in [line[0] for line in lines()], False)
 
 
-def watching(cases, folder):
+def watching(cases: Cases, folder: str) -> None:
     """What an operator is told, and a monitor."""
     state, record, metrics = (os.path.join(folder, name) for name in ("state", "record", "metrics"))
     words = ["--wait", "0.5", "--state", state, "--record", record, "--metrics", metrics]
@@ -171,7 +171,7 @@ def watching(cases, folder):
             cases.show("operation: its metric", "vtserve_up 0\n" in file.read(), True)
 
 
-def many_entries(cases, folder):
+def many_entries(cases: Cases, folder: str) -> None:
     """What `vtmap watch` says of an archive with nearly as many entries as one may have: of a stand-in, and of a publication that is refused."""
     watched = functools.partial(tool, "watch", "--wait", "0.2")
     header = bytearray(archive()[:127])
@@ -193,7 +193,7 @@ def many_entries(cases, folder):
             cases.show("operation: vtmap watch, an archive that isn't for it", watched("--url", between.url)[0], 0)
 
 
-def too_many_tiles(cases, folder):
+def too_many_tiles(cases: Cases, folder: str) -> None:
     """The same of real archives: points on all zooms, so far from each other that from zoom 7 on each is alone in one tile,
     a third of it from its edges."""
     record = os.path.join(folder, "tiles.record")
@@ -223,7 +223,7 @@ def too_many_tiles(cases, folder):
         cases.show("operation: vtmap publish says what to do", told[1].stderr.splitlines()[0], f"/publish/begin: TooManyTiles 507 {then}")
 
 
-def watched_gateway(cases, folder):
+def watched_gateway(cases: Cases, folder: str) -> None:
     """What `vtmap watch` says of a gateway: one that answers, one whose server is away, one that hangs, and none."""
     def watched(url, gateway):
         code, lines = tool("watch", "--url", url, "--gateway", gateway)
@@ -243,7 +243,7 @@ def watched_gateway(cases, folder):
         cases.show("operation: vtmap watch, a gateway that isn't for it", (code, line), (3, "the gateway URL: 403: 403 Forbidden"))
 
 
-def unpublished(cases, folder):
+def unpublished(cases: Cases, folder: str) -> None:
     """What `vtmap watch` says of a disk of version 1, and of edits that no publication takes, though none is recorded."""
     disk, state = os.path.join(folder, "old_version"), os.path.join(folder, "old_state")
     subprocess.run([PROGRAM, "format", disk, "--sectors", "1024"], check=True, capture_output=True)
@@ -321,7 +321,7 @@ def after(edit, known={0: {}}):
     return known[edit]
 
 
-def served_disk(cases, folder):
+def served_disk(cases: Cases, folder: str) -> None:
     """The disk file is read while edits and publications go on: each time it is the map after the edit that is told."""
     saved, faults, edits = os.path.join(folder, "moment.jsonl"), [], []
     with Server(folder, "moment.disk", 2048) as server:
@@ -356,7 +356,7 @@ def served_disk(cases, folder):
     cases.show("operation: --disk, a damaged file", (code, lines, digest(files[0]) == digest(files[1])), (1, ["a root sector"], True))
 
 
-def exactly(cases, folder):
+def exactly(cases: Cases, folder: str) -> None:
     """The map is made that of a file: what was imported wrongly since is deleted, which is told before; very much isn't."""
     monday, empty, saved = (os.path.join(folder, name) for name in ("monday.jsonl", "empty.jsonl", "saved.jsonl"))
     with Server(folder, "exactly", 4096) as server:
@@ -383,7 +383,7 @@ def exactly(cases, folder):
         cases.show("operation: load --exactly without --admin", (code, status_of(curl(server.url + "/features/1"))), (1, 404))
 
 
-def passed_by(cases, folder):
+def passed_by(cases: Cases, folder: str) -> None:
     """Publications pass while the disk file is read: it begins again. Edits go on meanwhile."""
     with Server(folder, "passed.disk", 2048) as server:
         for number in range(20):
@@ -409,7 +409,7 @@ def passed_by(cases, folder):
         cases.show("operation: --disk, publications that pass it by", (moment.passed, moment.edit, moment.features[2] == listed), (2, 24, True))
 
 
-def written_disks(cases, folder):
+def written_disks(cases: Cases, folder: str) -> None:
     """Random disks of the second writer (model/disk.py), of both versions, with journals that go round the ring."""
     chance, path, saved, differ = random.Random(5), os.path.join(folder, "written.disk"), os.path.join(folder, "written.jsonl"), []
     for at in range(40):
@@ -465,7 +465,7 @@ def rings_as_they_are(cases, folder, server):
         cases.show("operation: a backup puts back each ring in its direction", digest(files[0]), digest(files[1]))
 
 
-def wholes(cases, folder):
+def wholes(cases: Cases, folder: str) -> None:
     """A county that the import cuts is one feature again, and is cut into the same pieces when it is put back."""
     if not has_gdal(cases):
         return
@@ -506,7 +506,7 @@ def wholes(cases, folder):
 
 # ---- an object store
 
-def stores(cases, folder):
+def stores(cases: Cases, folder: str) -> None:
     """vtmap publish --to, into a server of S3 on this machine; and a reader of PMTiles by ranges."""
     if not (shutil.which("moto_server") and shutil.which("aws")):
         cases.say("no moto_server, or no aws: no object store is tried (pip install 'moto[server]' awscli)")
@@ -562,7 +562,7 @@ def stored(cases, folder, url, words):
         cases.show("operation: a store that isn't there", (told.returncode, said, "published" in told.stdout), (1, "not stored: s3://maps/office", True))
 
 
-def operation(cases, folder):
+def operation(cases: Cases, folder: str) -> None:
     """Each task of an operator."""
     place = os.path.join(folder, "operation")
     os.mkdir(place)

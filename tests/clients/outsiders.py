@@ -14,7 +14,7 @@ import threading
 import time
 
 from .browser import Browser
-from .stand import TOP, Nginx, Server, curl, feature, field, free_port, status_of
+from .stand import TOP, Cases, Nginx, Server, curl, feature, field, free_port, status_of
 
 KIND = ["-H", "Content-Type: application/json"]
 # What changes the map, or what is published, with the fields that a script sends.
@@ -205,7 +205,7 @@ class Told(http.server.BaseHTTPRequestHandler):
         pass
 
 
-def people_in(folder):
+def people_in(folder: str) -> None:
     """The file of names and passwords: ann's is `secret`."""
     with open(os.path.join(folder, "people"), "w", encoding="utf-8") as file:
         file.write("ann:{PLAIN}secret\n")
@@ -478,7 +478,7 @@ def rotated(cases, folder, front):
                {"access.log": "640", "edits.log": "640"})
 
 
-def outsiders(cases, folder):
+def outsiders(cases: Cases, folder: str) -> None:
     """Who isn't of the office."""
     nginx = nginx_of(cases)
     if not nginx:

@@ -11,7 +11,7 @@ import time
 from .browser import HIGH, WIDE, Browser
 from .page_hands import Hands
 from .pages import LOSE, PAGE, REFUSE, WHILE
-from .stand import SYSTEM_PYTHON, VTMAP, Nginx, Server, curl, feature, status_of
+from .stand import SYSTEM_PYTHON, VTMAP, Cases, Nginx, Server, curl, feature, status_of
 
 JSON_FILE = {"type": "FeatureCollection", "features": [
     {"type": "Feature", "geometry": {"type": "Point", "coordinates": [7.5, 54.5, 3]}, "properties": {
@@ -250,7 +250,7 @@ def differs(one, other):
     return 0 if one == other or isinstance(one, int) and abs(one - other) <= 1 else "differs"
 
 
-def page_files(cases, folder):
+def page_files(cases: Cases, folder: str) -> None:
     nginx = shutil.which("nginx") or "/usr/sbin/nginx"
     if not shutil.which("chromium") or not os.path.exists(nginx):
         cases.say("no chromium or no nginx: files that are dropped on the page aren't tried")

@@ -14,7 +14,7 @@ import time
 from .browser import CONTROL, HIGH, SHIFT, WIDE, Browser
 from .page_tools import FEATURES, OPENED, PIXEL, SIDE, Tools, X, Y
 from .pages import PAGE
-from .stand import Nginx, Server, curl, feature, status_of
+from .stand import Cases, Nginx, Server, curl, feature, status_of
 
 # What of the page's own texts a person reads or hears: texts, and names of controls.
 HEARD = """(() => {
@@ -457,7 +457,7 @@ class Hands(Tools):
         yield "what was saved"
 
 
-def page_hands(cases, folder):
+def page_hands(cases: Cases, folder: str) -> None:
     nginx = shutil.which("nginx") or "/usr/sbin/nginx"
     if not shutil.which("chromium") or not os.path.exists(nginx):
         cases.say("no chromium or no nginx: the page for hands and eyes isn't tried")

@@ -14,7 +14,7 @@ import subprocess
 from .browser import Browser
 from .import_stand import world
 from .pages import PAGE
-from .stand import Nginx, Server, curl, feature
+from .stand import Cases, Nginx, Server, curl, feature
 
 # Where the map is, and units of the world for a metre there.
 LONGITUDE, LATITUDE = 7.5, 54.5
@@ -32,7 +32,7 @@ def square(x, y, side):
     return [[x - side, y - side], [x + side, y - side], [x + side, y + side], [x - side, y + side]]
 
 
-def page_print(cases, folder):
+def page_print(cases: Cases, folder: str) -> None:
     """All of it."""
     nginx = shutil.which("nginx") or "/usr/sbin/nginx"
     if not (shutil.which("chromium") and shutil.which("pdftoppm") and os.path.exists(nginx)):

@@ -16,7 +16,7 @@ import zlib
 from .browser import HIGH, WIDE, Browser
 from .import_stand import world
 from .pages import PAGE, PLACE, People
-from .stand import SYSTEM_PYTHON, VTMAP, Nginx, Server, curl, feature, field, status_of
+from .stand import SYSTEM_PYTHON, VTMAP, Cases, Nginx, Server, curl, feature, field, status_of
 
 # Where the map is: longitude and latitude, and the same in the world. A side of a parcel is 120 pixels of zoom 17.
 AT = (7.5, 54.5)
@@ -424,7 +424,7 @@ class Tools(People):
         self.show("and they can be hidden", self.sees(made, *below, [169, 207, 227]), True)
 
 
-def page_tools(cases, folder):
+def page_tools(cases: Cases, folder: str) -> None:
     nginx = shutil.which("nginx") or "/usr/sbin/nginx"
     if not shutil.which("chromium") or not os.path.exists(nginx):
         cases.say("no chromium or no nginx: the tools of the page aren't tried")

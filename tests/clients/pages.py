@@ -17,7 +17,7 @@ from .downloads import downloads
 from .import_stand import world
 from .maplibre import draw_truth, maplibre
 from .screens import Share, water_differs
-from .stand import EXAMPLES, SYSTEM_PYTHON, TOP, VTMAP, Nginx, Server, curl, feature, field, status_of
+from .stand import EXAMPLES, SYSTEM_PYTHON, TOP, VTMAP, Cases, Nginx, Server, curl, feature, field, status_of
 
 PAGE = os.path.join(TOP, "web")
 WORLD = 2 ** 32
@@ -50,7 +50,7 @@ PIECE, SEA = 2 ** 40, (54.6, 7.6)
 HIDE = "document.head.append(Object.assign(document.createElement('style'), {textContent: 'nav, details, aside, footer { visibility: hidden }'}))"
 
 
-def page(cases, folder):
+def page(cases: Cases, folder: str) -> None:
     nginx = shutil.which("nginx") or "/usr/sbin/nginx"
     if not shutil.which("chromium") or not os.path.exists(nginx):
         cases.say("no chromium or no nginx: the page isn't tried")

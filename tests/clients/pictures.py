@@ -12,7 +12,7 @@ import time
 import xml.etree.ElementTree as tree
 import zlib
 
-from .stand import SYSTEM_PYTHON, TOP, VTMAP, Nginx, Server, curl, feature, field, free_port, status_of
+from .stand import SYSTEM_PYTHON, TOP, VTMAP, Cases, Nginx, Server, curl, feature, field, free_port, status_of
 
 PNG, CAPABILITIES, TILE = "image/png", "/wmts/1.0.0/WMTSCapabilities.xml", "/wmts/1.0.0/map/default/GoogleMapsCompatible"
 NAMES = {"": "{http://www.opengis.net/wmts/1.0}", "ows": "{http://www.opengis.net/ows/1.1}"}
@@ -124,7 +124,7 @@ def quarter():
     return feature("land", 0, 2, {"polygons": [[ring]]})
 
 
-def wmts(cases, folder):
+def wmts(cases: Cases, folder: str) -> None:
     """All of it."""
     if not has_cairo(cases):
         return
@@ -257,7 +257,7 @@ def by_gdal(cases, url):
         cases.show(f"wmts: GDAL reads {address.partition('/wmts')[2]}", child.stdout.splitlines() or child.stderr, wanted)
 
 
-def by_qgis(cases, folder):
+def by_qgis(cases: Cases, folder: str) -> None:
     """QGIS's layers of WMTS and of tiles: the part `wmts-qgis`."""
     if subprocess.run([SYSTEM_PYTHON, "-c", "import qgis.core"], capture_output=True, check=False).returncode or not has_cairo(cases):
         cases.say("no python3-qgis, or no python3-cairo: QGIS reads no pictures")
@@ -324,7 +324,7 @@ def behind_nginx(cases, folder, server):
     shutil.rmtree(front.folder)
 
 
-def without_a_server(cases, folder):
+def without_a_server(cases: Cases, folder: str) -> None:
     """A map that doesn't answer, and what it isn't started with."""
     with Drawer(folder, f"http://127.0.0.1:{free_port()}") as drawer:
         cases.show("wmts: the capabilities need no server", status_of(curl(drawer.url + CAPABILITIES)), 200)

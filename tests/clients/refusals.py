@@ -2,7 +2,7 @@
 import json
 import socket
 
-from .stand import JSON, Server, curl, feature, parsed, refusal, same, status_of, wanted
+from .stand import JSON, Cases, Server, curl, feature, parsed, refusal, same, status_of, wanted
 
 
 def methods(reply):
@@ -11,7 +11,7 @@ def methods(reply):
     return reply[0], fields, reply[2]
 
 
-def refused_requests(cases, folder):
+def refused_requests(cases: Cases, folder: str) -> None:
     """What is no request, and what is asked of paths."""
     with Server(folder, "refused") as server:
         url = server.url
@@ -80,7 +80,7 @@ def bare(port, sent):
         return read
 
 
-def refused_features(cases, folder):
+def refused_features(cases: Cases, folder: str) -> None:
     """Each word of a feature that isn't taken, at the limits."""
     point, tags = {"points": [[0, 0]]}, {f"k{number}": True for number in range(65)}
     world = {"polygons": [[[[0, 0], [4294967295, 0], [4294967295, 4294967295], [0, 4294967295]]]]}

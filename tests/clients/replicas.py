@@ -7,7 +7,7 @@ import threading
 
 from .several_maps import Here
 from .standby import waited
-from .stand import TOP, Nginx, Server, curl, feature, free_port, status_of
+from .stand import TOP, Cases, Nginx, Server, curl, feature, free_port, status_of
 
 TILE = "/map/0/0/0.mvt"
 
@@ -109,7 +109,7 @@ def removed(cases, here, server, front, ports):
     cases.show("replicas: what is left", (left, os.path.exists(here.path("etc/vtserve/replicas"))), ([], False))
 
 
-def replicas(cases, folder):
+def replicas(cases: Cases, folder: str) -> None:
     """A server and two replicas behind nginx."""
     program = shutil.which("nginx", path=os.environ.get("PATH", "") + ":/usr/sbin")
     if not program:

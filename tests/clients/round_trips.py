@@ -12,7 +12,7 @@ import subprocess
 
 from .checkins import gis
 from .import_stand import has_gdal, imported
-from .stand import SYSTEM_PYTHON, Server
+from .stand import SYSTEM_PYTHON, Cases, Server
 from .updates import listed
 
 # Writes the file, or prints what is to be compared: for each well the distance in metres between two files, and the types of a layer.
@@ -75,7 +75,7 @@ def sql(path, *statement):
     return found
 
 
-def there_and_back(cases, folder):
+def there_and_back(cases: Cases, folder: str) -> None:
     """A GeoPackage is imported, checked out, edited and checked in."""
     path, out = os.path.join(folder, "office.gpkg"), os.path.join(folder, "out.gpkg")
     python(WRITE, path)
@@ -115,7 +115,7 @@ def there_and_back(cases, folder):
         cases.show("round trips: without the file's types they are texts", (code, found["depth"], found["built"]), (0, "TEXT", "TEXT"))
 
 
-def tables(cases, folder):
+def tables(cases: Cases, folder: str) -> None:
     """Files of tables alone."""
     alone = os.path.join(folder, "alone.gpkg")
     source = os.path.join(folder, "rows.csv")
@@ -137,7 +137,7 @@ def tables(cases, folder):
         cases.show("round trips: one of them by --source", (code, lines[-1]), (0, "1 taken, 0 refused"))
 
 
-def round_trips(cases, folder):
+def round_trips(cases: Cases, folder: str) -> None:
     """Data of an office, in and out."""
     if not has_gdal(cases):
         return

@@ -3,10 +3,10 @@ import os
 import re
 import subprocess
 
-from .stand import BYTES, JSON, METADATA, MVT, PROGRAM, SHOWN, TEXT, TILE, Server, archive, curl, feature, refusal, same, status_of, wanted
+from .stand import BYTES, JSON, METADATA, MVT, PROGRAM, SHOWN, TEXT, TILE, Cases, Server, archive, curl, feature, refusal, same, status_of, wanted
 
 
-def routes(cases, folder):
+def routes(cases: Cases, folder: str) -> None:
     """Each route."""
     with Server(folder, "routes") as server:
         url = server.url

@@ -4,10 +4,10 @@ import signal
 import socket
 import time
 
-from .stand import BYTES, JSON, TEXT, TILE, Server, archive, curl, feature, parsed, refusal, same, status_of, wanted
+from .stand import BYTES, JSON, TEXT, TILE, Cases, Server, archive, curl, feature, parsed, refusal, same, status_of, wanted
 
 
-def full(cases, folder):
+def full(cases: Cases, folder: str) -> None:
     """A journal of 16 sectors and areas of 22, those of a disk of 64."""
     with Server(folder, "full", 64) as server:
         url = server.url
@@ -37,7 +37,7 @@ def full(cases, folder):
         same(cases, "no publication is under way", curl(url + "/publish/step", "-X", "POST"), refusal(409, "Idle"))
 
 
-def restarts(cases, folder):
+def restarts(cases: Cases, folder: str) -> None:
     """What a stop leaves, how many connections a process takes, and its log."""
     with Server(folder, "stopped") as server:
         same(cases, "PUT, then kill -9", curl(server.url + "/features/7", "-X", "PUT", body=feature()), wanted(200, JSON, '{"edit":1}'))
@@ -83,7 +83,7 @@ def answered(peer):
             return read.startswith(b"HTTP/1.1 200 "), time.monotonic() - began
 
 
-def kept_connections(cases, folder):
+def kept_connections(cases: Cases, folder: str) -> None:
     """As a browser does it: six connections that are kept open, and a seventh; and one that connects and is silent."""
     with Server(folder, "kept") as server:
         kept = [peer_of(server.port) for _ in range(6)]

@@ -9,7 +9,7 @@ import subprocess
 from .gateways import Gateway, Gis, edits_at, feature_at, map_at, point
 from .import_stand import has_gdal
 from .pages import town
-from .stand import VTMAP, Nginx, Server, curl, field, status_of
+from .stand import VTMAP, Cases, Nginx, Server, curl, field, status_of
 from .wfs_tables import columns, layers
 
 JSON = ["-H", "Content-Type: application/json"]
@@ -21,7 +21,7 @@ def vtmap(*line, **more):
     return child.returncode, (child.stdout + child.stderr).splitlines()
 
 
-def schema(cases, folder):
+def schema(cases: Cases, folder: str) -> None:
     """All of it."""
     nginx = shutil.which("nginx", path=os.environ.get("PATH", "") + ":/usr/sbin")
     if not nginx:

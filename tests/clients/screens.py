@@ -15,7 +15,7 @@ import subprocess
 import sys
 import time
 
-from .stand import EXAMPLES, HALF, SYSTEM_PYTHON, VTMAP, Server, curl, feature
+from .stand import EXAMPLES, HALF, SYSTEM_PYTHON, VTMAP, Cases, Server, curl, feature
 
 PLOTLY = "/usr/share/python3-plotly/plotly.js"
 WIDE, HIGH = 768, 512
@@ -128,7 +128,7 @@ def water_differs(one, other):
     return float(told.stdout) if told.returncode == 0 else told.stderr
 
 
-def forty_tiles(cases, folder):
+def forty_tiles(cases: Cases, folder: str) -> None:
     """Forty tiles that Chromium asks for at once, beside a curl."""
     with Server(folder, "forty") as server:
         corners = [[0, 0], [WORLD, 0], [WORLD, WORLD], [0, WORLD]]
@@ -191,7 +191,7 @@ class Share:
         return f"at most {self.most}"
 
 
-def screens(cases, folder):
+def screens(cases: Cases, folder: str) -> None:
     if not shutil.which("chromium") or not os.path.exists(PLOTLY):
         cases.say("no chromium or no plotly.js: no browser is tried")
         return

@@ -16,7 +16,7 @@ import tempfile
 import time
 
 from .pictures import Drawer, has_cairo
-from .stand import HERE, PROGRAM, TILE, TOP, VTMAP, Nginx, Server, curl, feature, field, free_port, status_of
+from .stand import HERE, PROGRAM, TILE, TOP, VTMAP, Cases, Nginx, Server, curl, feature, field, free_port, status_of
 
 TIMED = ("publish", "watch", "backup")
 STARTED = "enable --now vtserve@{0}.service" + "".join(f" vtserve-{name}@{{0}}.timer" for name in TIMED)
@@ -106,7 +106,7 @@ def answered(url, *words, status=None):
     return reply
 
 
-def templates(cases):
+def templates(cases: Cases) -> None:
     """The template units are those of one map, with names, and systemd-analyze has nothing to say of them."""
     child = subprocess.run([sys.executable, os.path.join(TOP, "tools", "templates.py"), "--check"], capture_output=True, text=True)
     cases.show("maps: the template units are made of the units of one map", (child.returncode, child.stdout), (0, ""))
@@ -327,7 +327,7 @@ def fates(cases, here, front):
         [b'{"geometry":{"points":[[0,0]]},"layer":"of4","maxzoom":2,"minzoom":0,"tags":{}}']))
 
 
-def maps(cases, folder):
+def maps(cases: Cases, folder: str) -> None:
     """The commands, and three maps behind nginx."""
     folder = os.path.join(folder, "maps")
     os.mkdir(folder)

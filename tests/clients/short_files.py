@@ -11,7 +11,7 @@ import zipfile
 
 from .between import Between
 from .import_stand import has_gdal, imported, is_near, row, shown, square, world, written
-from .stand import Server, archive, curl, feature
+from .stand import Cases, Server, archive, curl, feature
 from .updates import listed, status
 
 HEAD, LAST = "nr,name,lon,lat\n", "9003,Pump,7.505,54.502\n"
@@ -41,7 +41,7 @@ def text(folder, name, content, encoding="utf-8"):
     return path
 
 
-def tables(cases, folder):
+def tables(cases: Cases, folder: str) -> None:
     """Tables whose last line was cut: its place would be on the equator, or nowhere."""
     whole = HEAD + "".join(f"900{at},Well {at},7.49{at},54.50{at}\n" for at in range(3)) + LAST
     with Server(folder, "tables") as server:
@@ -89,7 +89,7 @@ def tables(cases, folder):
         )
 
 
-def other_formats(cases, folder):
+def other_formats(cases: Cases, folder: str) -> None:
     """Files of other formats, cut in the middle."""
     path = written(
         folder, "source.geojson", [row("Point", [7 + at / 1000, 54], nr=at, name=f"point {at}") for at in range(1, 301)]
@@ -114,7 +114,7 @@ def other_formats(cases, folder):
             shutil.rmtree(place)
 
 
-def fewer_rows(cases, folder):
+def fewer_rows(cases: Cases, folder: str) -> None:
     """A file that ends between two rows: only how much would be deleted can be judged."""
 
     def rows(layers):
@@ -161,7 +161,7 @@ def fewer_rows(cases, folder):
         )
 
 
-def without_room(cases, folder):
+def without_room(cases: Cases, folder: str) -> None:
     """A long file for which the disk has no room: that is said before all of it is read, and its size says which disk
     has."""
     path = text(
@@ -197,7 +197,7 @@ def without_room(cases, folder):
         cases.show("short files: nothing of it was sent", status(server)["edits"], 0)
 
 
-def near_the_end_of_an_archive(cases, folder):
+def near_the_end_of_an_archive(cases: Cases, folder: str) -> None:
     """An archive has at most 131,072 entries: those that are published count. Byte 80 of an archive says how many these
     are."""
     header = bytearray(archive()[:127])
@@ -217,7 +217,7 @@ def near_the_end_of_an_archive(cases, folder):
             cases.show(f"short files: ten tiles beside {there:,} entries", (code, said), (0, [True] if warns else []))
 
 
-def zipped(cases, folder):
+def zipped(cases: Cases, folder: str) -> None:
     """Shapefiles as offices send them."""
     path = written(folder, "town.geojson", [row("Point", [7, 54], name="Straße"), row("Point", [7.1, 54], name="two")])
     for name in ("town", "lake"):
@@ -272,7 +272,7 @@ def zipped(cases, folder):
         )
 
 
-def by_row(cases, folder):
+def by_row(cases: Cases, folder: str) -> None:
     """What is odd about a feature is told with its row: numbers beyond 64 bits, rings that cross, no id."""
     numbers = [7, 2**64 - 1, -(2**63) - 1, 2**64, 2**63 - 1]
     with Server(folder, "by_row", 65536) as server:
@@ -323,7 +323,7 @@ def by_row(cases, folder):
         )
 
 
-def many_pieces(cases, folder):
+def many_pieces(cases: Cases, folder: str) -> None:
     """A feature that would become thousands of features."""
     # 40 degrees of longitude are 1,820.4 tiles of zoom 14, 50 are 2,275.6: a line along the equator is cut once a tile.
     with Server(folder, "pieces_of_one", 65536) as server:
@@ -350,7 +350,7 @@ def many_pieces(cases, folder):
         cases.show("short files: --cut-many", (code, lines[-1]), (0, f"{pieces} taken, 0 refused"))
 
 
-def short_files(cases, folder):
+def short_files(cases: Cases, folder: str) -> None:
     """Files that came short."""
     if not has_gdal(cases):
         return

@@ -8,6 +8,12 @@ import struct
 import subprocess
 import sys
 import time
+from collections.abc import Iterable
+from typing import Any, Optional, Union
+
+# The first line of a reply, its fields in their order, and its content; what is expected of one, by its status.
+Reply = tuple[str, list[tuple[str, str]], bytes]
+Expected = tuple[int, list[tuple[str, str]], bytes]
 
 HERE = os.path.dirname(os.path.abspath(__file__))
 TOP = os.path.join(HERE, "..", "..")
@@ -39,12 +45,12 @@ PHRASES = {
 HALF = 20037508.342789244
 
 
-def feature(layer="p", first=0, last=2, geometry=None, tags=None):
+def feature(layer: str = "p", first: int = 0, last: int = 2, geometry: Optional[dict] = None, tags: Optional[dict] = None) -> str:
     """The body of a PUT."""
     return json.dumps({"layer": layer, "minzoom": first, "maxzoom": last, "geometry": geometry or {"points": [[0, 0]]}, "tags": tags or {}})
 
 
-def archive():
+def archive() -> bytes:
     """The archive of the map with the worked point alone: three tiles of one content, by FORMATS.md and the standard of PMTiles 3."""
     metadata, tile = METADATA.encode(), bytes.fromhex(TILE)
     at = [127, 127 + len(ROOT), 127 + len(ROOT) + len(metadata)]
@@ -57,11 +63,11 @@ def archive():
 class Cases:
     """The cases so far, each printed as it is seen."""
 
-    def __init__(self):
+    def __init__(self) -> None:
         self.seen = 0
         self.differ = 0
 
-    def show(self, name, found, wanted):
+    def show(self, name: str, found: object, wanted: object) -> None:
         self.seen += 1
         if found == wanted:
             print(f"ok      {name}", flush=True)
@@ -69,11 +75,11 @@ class Cases:
             self.differ += 1
             print(f"DIFFERS {name}: {found!r}, wanted {wanted!r}", flush=True)
 
-    def say(self, text):
+    def say(self, text: str) -> None:
         print(f"        {text}", flush=True)
 
 
-def free_port():
+def free_port() -> int:
     """A port that nobody listens on."""
     with socket.socket() as probe:
         probe.bind(("127.0.0.1", 0))
@@ -83,7 +89,7 @@ def free_port():
 class Server:
     """A process of `serve`, on a disk that is made for it if there is none."""
 
-    def __init__(self, folder, name, sectors=4096, connections=4294967295, port=None, more=("--admin",), log=None, under=()):
+    def __init__(self, folder: str, name: str, sectors: int = 4096, connections: int = 4294967295, port: Optional[int] = None, more: Iterable[str] = ("--admin",), log: Optional[str] = None, under: Iterable[str] = ()) -> None:
         self.disk = os.path.join(folder, name)
         if not os.path.exists(self.disk):
             subprocess.run([PROGRAM, "format", self.disk, "--sectors", str(sectors)], check=True, stdout=subprocess.DEVNULL)
@@ -94,47 +100,48 @@ class Server:
         self.child = subprocess.Popen(words, stdout=subprocess.PIPE, stderr=self.log)
         self.told = self.child.stdout.readline().decode()
 
-    def lines(self):
+    def lines(self) -> list[str]:
         """The lines on standard error so far."""
         self.log.seek(0)
         return self.log.read().decode().splitlines()
 
-    def end(self, by=signal.SIGTERM):
+    def end(self, by: int = signal.SIGTERM) -> int:
         """Ends it, and gives its status."""
         self.child.send_signal(by)
         return self.child.wait(60)
 
-    def __enter__(self):
+    def __enter__(self) -> "Server":
         return self
 
-    def __exit__(self, *fault):
+    def __exit__(self, *fault: object) -> None:
         if self.child.poll() is None:
             self.end(signal.SIGKILL)
         self.child.stdout.close()
         self.log.close()
 
 
-def parsed(reply):
+def parsed(reply: bytes) -> Reply:
     """The first line, the fields in their order and the content of a reply."""
     head, _, content = reply.partition(b"\r\n\r\n")
     first, *fields = head.decode().split("\r\n")
-    return first, [tuple(field.split(": ", 1)) for field in fields], content
+    pairs = (field.partition(": ") for field in fields)
+    return first, [(name, value) for name, _, value in pairs], content
 
 
-def curl(url, *words, body=None):
+def curl(url: str, *words: str, body: Optional[str] = None) -> Reply:
     """What curl reads: the first line, the fields and the content."""
     if body is not None:
-        words = [*words, "--data-binary", "@-"]
+        words = (*words, "--data-binary", "@-")
     child = subprocess.run(["curl", "--silent", "--include", "--max-time", "120", *words, url], input=body and body.encode(), capture_output=True)
     return parsed(child.stdout) if child.returncode == 0 else (f"curl ended with {child.returncode}", [], b"")
 
 
-def status_of(reply):
+def status_of(reply: Reply) -> Union[int, str]:
     """The number of a reply's status, or what was read instead."""
     return int(reply[0].split()[1]) if reply[0].startswith("HTTP/1.") else reply[0]
 
 
-def wanted(status, kind=None, content="", closes=False, more=()):
+def wanted(status: int, kind: Optional[str] = None, content: Union[str, bytes] = "", closes: bool = False, more: Iterable[tuple[str, str]] = ()) -> Expected:
     """The reply that HTTP.md promises, its fields in their order."""
     content = content if isinstance(content, bytes) else content.encode()
     fields = [("content-type", kind)] if kind else []
@@ -144,7 +151,7 @@ def wanted(status, kind=None, content="", closes=False, more=()):
     return status, fields, content
 
 
-def same(cases, name, reply, expected):
+def same(cases: Cases, name: str, reply: Reply, expected: Expected) -> None:
     """Shows a reply beside the one that is wanted, and its phrase where HTTP has one."""
     status, fields, content = expected
     phrase = PHRASES[status]
@@ -152,7 +159,7 @@ def same(cases, name, reply, expected):
     cases.show(name, reply, (line, fields, content))
 
 
-def refusal(status, word, closes=False, more=()):
+def refusal(status: int, word: str, closes: bool = False, more: Iterable[tuple[str, str]] = ()) -> Expected:
     """A refusal: its word and a line feed."""
     return wanted(status, TEXT, word + "\n", closes, more)
 
@@ -161,7 +168,7 @@ class Nginx:
     """nginx with the kept configuration, but for its ports and further changes, in front of a server. `unit`: the umask and the user of the workers,
     whose group its folder has then, and nobody else may enter it."""
 
-    def __init__(self, program, folder, server, changes=(), unit=None):
+    def __init__(self, program: str, folder: str, server: Any, changes: Iterable[tuple[str, str]] = (), unit: Optional[tuple[int, Optional[str]]] = None) -> None:
         self.folder = os.path.join(folder, "nginx")
         os.mkdir(self.folder)
         mask, user = unit or (-1, None)
@@ -176,10 +183,10 @@ class Nginx:
         used = used.replace("listen [::]:8000", f"listen [::1]:{self.port}").replace("127.0.0.1:8001;", f"127.0.0.1:{free_port()};")
         for before, after in changes:
             used = used.replace(before, after)
-        file = os.path.join(self.folder, "used.conf")
-        with open(file, "w", encoding="utf-8") as made:
+        path = os.path.join(self.folder, "used.conf")
+        with open(path, "w", encoding="utf-8") as made:
             made.write(used)
-        words = [program, "-p", self.folder, "-c", file, "-g", "daemon off;" + (f" user {user};" if user else "")]
+        words = [program, "-p", self.folder, "-c", path, "-g", "daemon off;" + (f" user {user};" if user else "")]
         self.child = subprocess.Popen(words, stdout=subprocess.DEVNULL, stderr=subprocess.PIPE, umask=mask)
         for _ in range(100):
             with socket.socket() as probe:
@@ -187,19 +194,19 @@ class Nginx:
                     return
             time.sleep(0.1)
 
-    def errors(self):
+    def errors(self) -> list[str]:
         """The lines of its log of errors."""
         with open(os.path.join(self.folder, "error.log"), encoding="utf-8") as file:
             return file.read().splitlines()
 
-    def __enter__(self):
+    def __enter__(self) -> "Nginx":
         return self
 
-    def __exit__(self, *fault):
+    def __exit__(self, *fault: object) -> None:
         self.child.terminate()
         self.child.communicate(timeout=60)
 
 
-def field(reply, name):
+def field(reply: Reply, name: str) -> Optional[str]:
     """The value of a field of a reply."""
     return next((value for key, value in reply[1] if key.lower() == name), None)

@@ -10,7 +10,7 @@ import xml.etree.ElementTree as tree
 
 from .gateways import XML, Gateway, feature_at, text_of
 from .pages import town
-from .stand import SYSTEM_PYTHON, Server, curl, field, status_of
+from .stand import SYSTEM_PYTHON, Cases, Server, curl, field, status_of
 
 WFS, FES, OWS = "http://www.opengis.net/wfs/2.0", "http://www.opengis.net/fes/2.0", "http://www.opengis.net/ows/1.1"
 BY_ID = "urn:ogc:def:query:OGC-WFS::GetFeatureById"
@@ -20,7 +20,7 @@ HEAD = f'xmlns="{WFS}" xmlns:fes="{FES}" xmlns:v="urn:vtserve" service="WFS" ver
 LIMIT = 60
 
 
-def standards(cases, folder):
+def standards(cases: Cases, folder: str) -> None:
     """All of it."""
     folder = os.path.join(folder, "standards")
     os.mkdir(folder)

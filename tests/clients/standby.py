@@ -15,7 +15,7 @@ import time
 from vtmap.client.client import Client
 
 from .between import Between
-from .stand import PROGRAM, VTMAP, Server, curl, feature
+from .stand import PROGRAM, VTMAP, Cases, Server, curl, feature
 
 EDITS = 10_000
 # The edits between two publications, and between two kills of one of the three processes.
@@ -143,7 +143,7 @@ def has_was(path):
     return all("missed" not in row for row in rows)
 
 
-def basics(cases, folder):
+def basics(cases: Cases, folder: str) -> None:
     """Two standbys and a log, within a second; lost replies; a standby that somebody else edits; a server behind a proxy that restarts."""
     with Server(folder, "leader", 65536) as leader:
         editor, log = Editor(leader.port), os.path.join(folder, "edits.jsonl")
@@ -242,7 +242,7 @@ def stopped(cases, leader, editor, log):
     cases.show("standby: publish --log waits for a log whose follower has stopped, which misses nothing", seen, (True, 0, True))
 
 
-def behind(cases, folder):
+def behind(cases: Cases, folder: str) -> None:
     """Publications: with a pause nobody is left behind, without one a follower that was away is, and says what to do."""
     with Server(folder, "behind", 65536) as leader:
         editor, log = Editor(leader.port), os.path.join(folder, "behind.jsonl")
@@ -375,7 +375,7 @@ class Stage:
             server.__exit__()
 
 
-def long_follow(cases, folder):
+def long_follow(cases: Cases, folder: str) -> None:
     """Ten thousand edits while each process is killed, and while the map is published: the numbers are equal, the features byte for byte."""
     place = os.path.join(folder, "long_follow")
     os.mkdir(place)
@@ -432,7 +432,7 @@ def short(value):
     return json.dumps(value, separators=(",", ":"), sort_keys=True)
 
 
-def large(cases, folder):
+def large(cases: Cases, folder: str) -> None:
     """A PUT takes 65,536 bytes of JSON; `{"changes":[{"feature":..,"put":N}]}` around it is 33 bytes and the digits of N longer, which no batch takes."""
     with Server(folder, "large", 65536) as leader, Server(folder, copied(leader, folder, "large_standby")) as standby:
         for number, length in [(2, 65502), (2, 65503), (3, 65536), (2 ** 63 - 1, 65536)]:
@@ -472,7 +472,7 @@ def large(cases, folder):
         cases.show("standby: a large one whose reply is lost is made once", (lost, has_all, features(standby) == features(leader)), (["PUT"], True, True))
 
 
-def histories(cases, folder):
+def histories(cases: Cases, folder: str) -> None:
     """A leader that is put back from an older copy, and edited: it is another map, also where no edit is listed by both."""
     versions = itertools.count(1)
 
@@ -510,7 +510,7 @@ def histories(cases, folder):
             cases.show("standby: one whose last edit is the same after another one", (code, said, known(standby)["edits"]), (1, True, 3))
 
 
-def standby(cases, folder):
+def standby(cases: Cases, folder: str) -> None:
     """Standbys and a log."""
     place = os.path.join(folder, "standby_part")
     os.mkdir(place)

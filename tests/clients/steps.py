@@ -4,10 +4,10 @@ import os
 import signal
 import subprocess
 
-from .stand import JSON, VTMAP, Server, curl, feature, refusal, same, wanted
+from .stand import JSON, VTMAP, Cases, Server, curl, feature, refusal, same, wanted
 
 
-def steps(cases, folder):
+def steps(cases: Cases, folder: str) -> None:
     """A publication by steps, with edits between them, and interrupted."""
     tool = [*VTMAP, "publish", "--url"]
     with Server(folder, "steps", 65536) as server:

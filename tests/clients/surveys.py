@@ -6,7 +6,7 @@ import re
 import shutil
 import subprocess
 
-from .stand import EXAMPLES, HALF, SYSTEM_PYTHON, VTMAP, Server, curl, status_of
+from .stand import EXAMPLES, HALF, SYSTEM_PYTHON, VTMAP, Cases, Server, curl, status_of
 
 
 def world(longitude, latitude):
@@ -46,7 +46,7 @@ def said(line):
     return not line.startswith(("to send: ", "needed beside ", "what was published ", "used: ", "look at it: ", "its edits: "))
 
 
-def gdal(cases, folder):
+def gdal(cases: Cases, folder: str) -> None:
     """A file of a survey put into the map by the example, and its tiles read by GDAL."""
     if not shutil.which("ogr2ogr"):
         cases.say("no ogr2ogr: no tile is read by GDAL")

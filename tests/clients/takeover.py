@@ -9,7 +9,7 @@ import time
 
 from .several_maps import Here
 from .standby import Editor, copied, features, follow, known, once, waited
-from .stand import TOP, VTMAP, Nginx, Server, curl, feature, free_port, status_of
+from .stand import TOP, VTMAP, Cases, Nginx, Server, curl, feature, free_port, status_of
 
 # The edits before the machine dies, and the seconds between two of them.
 BEFORE, BETWEEN = 150, 0.02
@@ -89,7 +89,7 @@ def takes_over(cases, folder, old, standby):
         follower.communicate()
 
 
-def breaks(cases, folder):
+def breaks(cases: Cases, folder: str) -> None:
     """The disk fails, by strace: a broken server still lists what it has acknowledged, and not the edit in doubt; and after a restart that too, if
     it was stored."""
     if not shutil.which("strace"):
@@ -131,7 +131,7 @@ STARTED = ["disable --now vtserve-standby.service",
            "start --no-block vtserve-publish.service vtserve-backup.service"]
 
 
-def by_a_command(cases, folder):
+def by_a_command(cases: Cases, folder: str) -> None:
     """`vtmap takeover` on the second machine, which nginx serves to readers from the start."""
     program = shutil.which("nginx", path=os.environ.get("PATH", "") + ":/usr/sbin")
     if not program:
@@ -195,7 +195,7 @@ def by_a_command(cases, folder):
     cases.show("takeover: without a standby", nobody[0], 3)
 
 
-def takeover(cases, folder):
+def takeover(cases: Cases, folder: str) -> None:
     """Machines that die."""
     place = os.path.join(folder, "takeover_part")
     os.mkdir(place)

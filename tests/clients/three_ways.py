@@ -6,7 +6,7 @@ import shutil
 import subprocess
 
 from .import_stand import has_gdal, imported, row, square, written
-from .stand import SYSTEM_PYTHON, VTMAP, Server, curl, feature
+from .stand import SYSTEM_PYTHON, VTMAP, Cases, Server, curl, feature
 from .updates import listed, status
 
 WORDS = ["--layer", "p", "--id", "nr", "--update", "--delete-missing"]
@@ -45,7 +45,7 @@ class Office:
         return {number: one["tags"]["name"] for number, one in listed(self.server).items()}
 
 
-def theirs_stays(cases, folder):
+def theirs_stays(cases: Cases, folder: str) -> None:
     """Colleagues change five features, delete two and add one. The file changes others, deletes one and has a new one."""
     with Server(folder, "theirs", 65536) as server:
         office = Office(folder, "theirs", server)
@@ -68,7 +68,7 @@ def theirs_stays(cases, folder):
                    (0, "1 new, 2 changed, 1 deleted, 90 unchanged, 8 left as the map has them", True))
 
 
-def conflicts(cases, folder):
+def conflicts(cases: Cases, folder: str) -> None:
     """Both change a feature; the file deletes one that was changed on the map, and changes one that was deleted there."""
     def office_of(server):
         office = Office(folder, server.disk.rpartition("/")[2], server)
@@ -118,7 +118,7 @@ def conflicts(cases, folder):
         cases.show("three ways: both of them", code, 2)
 
 
-def unknown(cases, folder):
+def unknown(cases: Cases, folder: str) -> None:
     """What the file said before isn't known: each difference is a conflict. The map was put back from an older copy, or is another one."""
     with Server(folder, "unknown", 65536) as server, Server(folder, "another", 65536) as another:
         office = Office(folder, "unknown", server)
@@ -166,7 +166,7 @@ def unknown(cases, folder):
                        (1, True, ["conflict: p 9 ('ours'): name: 'name 9' on the map, 'ours' in the file"]))
 
 
-def kept_elsewhere(cases, folder):
+def kept_elsewhere(cases: Cases, folder: str) -> None:
     """A file in a folder where nothing can be written: it is imported, and what it said is kept where --base says."""
     place = os.path.join(folder, "read_only")
     os.mkdir(place)
@@ -192,7 +192,7 @@ def kept_elsewhere(cases, folder):
             cases.show("three ways: where nothing can be written an import goes on, and says so", (told.returncode, len(said)), (0, 1))
 
 
-def whole_ones(cases, folder):
+def whole_ones(cases: Cases, folder: str) -> None:
     """A large feature is one; texts are named; a feature that somebody moves to another layer is no id of another layer."""
     ids = os.path.join(folder, "map.ids")
     words = ["--minzoom", "12", "--id", "code", "--ids", ids, "--update", "--delete-missing"]
@@ -219,7 +219,7 @@ def whole_ones(cases, folder):
                    (0, "0 new, 0 changed, 0 deleted, 0 unchanged, 2 left as the map has them"))
 
 
-def half_a_file(cases, folder):
+def half_a_file(cases: Cases, folder: str) -> None:
     """A file that ends in the middle, or is empty: what would empty a layer is taken for a mistake."""
     with Server(folder, "half", 65536) as server:
         office = Office(folder, "half", server)
@@ -237,7 +237,7 @@ def half_a_file(cases, folder):
         cases.show("three ways: half of a layer is deleted without a word more", (code, lines[-1]), (0, "0 new, 0 changed, 20 deleted, 20 unchanged"))
 
 
-def three_ways(cases, folder):
+def three_ways(cases: Cases, folder: str) -> None:
     """Imports again, while people edit the map."""
     if not has_gdal(cases):
         return

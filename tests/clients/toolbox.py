@@ -10,7 +10,7 @@ from vtmap.client.client import Client
 
 from .between import Between
 from .import_stand import has_gdal, row, written
-from .stand import EXAMPLES, TOP, VTMAP, Nginx, Server, curl, feature
+from .stand import EXAMPLES, TOP, VTMAP, Cases, Nginx, Server, curl, feature
 
 NAMES = ["try", "import", "update", "checkout", "checkin", "wfs", "wmts", "files", "schema", "save", "load", "publish", "join", "watch", "maps", "replica", "takeover",
          "delete-layer", "qgis", "follow", "log", "undo", "draw"]
@@ -35,7 +35,7 @@ def ran(*line, words=(), **more):
     return child.returncode, child.stdout + child.stderr
 
 
-def helps(cases):
+def helps(cases: Cases) -> None:
     """One help for all, and one for each."""
     code, told = ran(*VTMAP, "--help")
     cases.show("toolbox: --help lists the commands", (code, re.findall(r"^  ([a-z-]+) {2,}", told.partition("options:")[0], re.MULTILINE)), (0, NAMES))
@@ -47,7 +47,7 @@ def helps(cases):
         cases.show(f"toolbox: a wrong command: {words}", ran(*VTMAP, *words)[0], 2)
 
 
-def addresses(cases, folder):
+def addresses(cases: Cases, folder: str) -> None:
     """The address of the server: before or after the command, by the environment, or the one that is assumed."""
     out = os.path.join(folder, "out.jsonl")
     with Server(folder, "toolbox") as server:
@@ -65,7 +65,7 @@ def addresses(cases, folder):
         cases.show("toolbox: checkin asks the server that was checked out of", (code, told), (0, "0 new, 0 changed, 0 deleted, 0 conflicts, 0 refused\n"))
 
 
-def listings(cases, folder):
+def listings(cases: Cases, folder: str) -> None:
     """A list of a large map is a few requests, which nginx doesn't log; of an older server one for each feature."""
     nginx = shutil.which("nginx", path=os.environ.get("PATH", "") + ":/usr/sbin")
     out, seen, lost = os.path.join(folder, "listed.jsonl"), [], set()
@@ -104,7 +104,7 @@ def listings(cases, folder):
             cases.show("toolbox: nginx logs no list of features", [line.split('"')[1].split()[1] for line in lines], ["/admin/status", "/features/7"])
 
 
-def refusals(cases, folder):
+def refusals(cases: Cases, folder: str) -> None:
     """What a proxy says in HTML is told without its tags."""
     page = b"<html>\r\n<head><title>418 I'm a teapot</title></head>\r\n<body>..</body></html>\r\n"
     path = os.path.join(folder, "one.jsonl")
@@ -119,7 +119,7 @@ def refusals(cases, folder):
         cases.show("toolbox: a publication that is refused so", told, (1, "/publish/begin: 418 I'm a teapot\n"))
 
 
-def places(cases, folder):
+def places(cases: Cases, folder: str) -> None:
     """In a clone and installed, from any folder."""
     installed = os.path.join(folder, "usr")
     shutil.copytree(os.path.join(TOP, "vtmap"), os.path.join(installed, "lib", "vtserve", "vtmap"))
@@ -132,7 +132,7 @@ def places(cases, folder):
     cases.show("toolbox: python3 -m vtmap in a clone", ran(sys.executable, "-m", "vtmap", "--version", cwd=TOP), (0, "vtmap 0.2.0\n"))
 
 
-def one_file(cases, folder):
+def one_file(cases: Cases, folder: str) -> None:
     """vtmap.pyz: anywhere, twice the same, by a link, and by a Python that is too old."""
     paths = [os.path.join(folder, name) for name in ("vtmap.pyz", "again.pyz")]
     for path in paths:
@@ -149,7 +149,7 @@ def one_file(cases, folder):
     cases.show("toolbox: an old Python", ran(sys.executable, "-c", script, paths[0]), (1, "vtmap needs Python 3.9 or a newer one, and this is 3.8\n"))
 
 
-def interpreters(cases, folder):
+def interpreters(cases: Cases, folder: str) -> None:
     """An interpreter without GDAL finds the one that has it; where none has, that is said."""
     if not has_gdal(cases):
         return
@@ -171,14 +171,14 @@ def interpreters(cases, folder):
         cases.show("toolbox: and says so where there is none", (code, told), (1, said))
 
 
-def old_names(cases):
+def old_names(cases: Cases) -> None:
     """What stood in examples/ says where it went."""
     for name, now in OLD.items():
         code, told = ran("bash" if name.endswith(".sh") else sys.executable, os.path.join(EXAMPLES, name), "some", "words")
         cases.show(f"toolbox: {name} says where it went", (code, told.startswith(f"examples/{name} is now {now}")), (2, True))
 
 
-def constants(cases):
+def constants(cases: Cases) -> None:
     """Each constant once."""
     texts = {}
     for folder, _, names in os.walk(os.path.join(TOP, "vtmap")):
@@ -190,7 +190,7 @@ def constants(cases):
     cases.show("toolbox: each constant once", {number: count for number, count in found.items() if count > 1}, {})
 
 
-def toolbox(cases, folder):
+def toolbox(cases: Cases, folder: str) -> None:
     """`vtmap` as a command."""
     place = os.path.join(folder, "toolbox")
     os.mkdir(place)

@@ -10,7 +10,7 @@ import time
 from .gateways import Gateway, Gis
 from .import_stand import has_gdal, imported, row, written
 from .standby import features, follow, known, waited
-from .stand import VTMAP, Nginx, Server, curl, status_of
+from .stand import VTMAP, Cases, Nginx, Server, curl, status_of
 
 PEOPLE = [
     ("# satisfy any;", "satisfy any;"),
@@ -242,7 +242,7 @@ def rotated(cases, office):
     cases.show("trail: a file that is no log", (code, "this isn't a line of `vtmap follow --log`" in lines[0]), (1, True))
 
 
-def trail(cases, folder):
+def trail(cases: Cases, folder: str) -> None:
     """Who changed what, and undo."""
     nginx = shutil.which("nginx", path=os.environ.get("PATH", "") + ":/usr/sbin")
     if not nginx:

@@ -11,7 +11,7 @@ import time
 from .gateways import Gateway
 from .import_stand import has_gdal
 from .pictures import has_cairo
-from .stand import PROGRAM, TOP, VTMAP, Nginx, Server, curl, feature, field, free_port, status_of
+from .stand import PROGRAM, TOP, VTMAP, Cases, Nginx, Server, curl, feature, field, free_port, status_of
 
 JSON, TEXT = "Content-Type: application/json", "Content-Type: text/plain;charset=json"
 FEATURE, BATCH = feature(), '{"changes":[]}'
@@ -146,7 +146,7 @@ def refused(cases, name, folder, words, said):
     cases.show(f"try: {name}", (child.returncode, len(lines), re.search(said, "\n".join(lines)) is not None or lines), (1, 1, True))
 
 
-def tries(cases, folder):
+def tries(cases: Cases, folder: str) -> None:
     """The whole of it."""
     folder = os.path.join(folder, "try")
     os.mkdir(folder)
@@ -157,7 +157,7 @@ def tries(cases, folder):
     endings(cases, folder)
 
 
-def refusals(cases, folder):
+def refusals(cases: Cases, folder: str) -> None:
     """What it doesn't begin with."""
     program = ["--program", PROGRAM, "--no-browser", "--empty"]
     os.mkdir(os.path.join(folder, "full"))
@@ -181,7 +181,7 @@ def refusals(cases, folder):
         refused(cases, "a port that somebody has", folder, ["taken", "--port", f"{port}", *program], f"port {port} of 127.0.0.1 can't be opened")
 
 
-def town(cases, folder):
+def town(cases: Cases, folder: str) -> None:
     """The town, once more with another port, and the map of before."""
     with Tried(folder, "--program", PROGRAM) as tried:
         cases.show("try: it says where the page is", re.sub(r":\d+/", ":PORT/", tried.lines[0]), "the map: http://127.0.0.1:PORT/pages/#13/54.50001/7.50052")
@@ -209,7 +209,7 @@ def replies_of(url):
     return found
 
 
-def fronts(cases, folder):
+def fronts(cases: Cases, folder: str) -> None:
     """The same requests to this front and to nginx with docs/nginx.conf."""
     program = shutil.which("nginx", path=os.environ.get("PATH", "") + ":/usr/sbin")
     if program is None:
@@ -237,7 +237,7 @@ def fronts(cases, folder):
         cases.show("try: a file above the page", status_of(curl(tried.url + "/pages/../README.md", "--path-as-is")), 404)
 
 
-def endings(cases, folder):
+def endings(cases: Cases, folder: str) -> None:
     """However it ends, nothing is left running."""
     words = ["--empty", "--no-browser", "--program", PROGRAM]
     started = ["map", "wfs"] + ["wmts"] * has_cairo(cases)

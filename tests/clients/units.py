@@ -12,7 +12,7 @@ import time
 
 from .gateways import Gateway, Gis, triangle
 from .pictures import Drawer, has_cairo
-from .stand import PROGRAM, TOP, VTMAP, Server, curl, feature, free_port, status_of
+from .stand import PROGRAM, TOP, VTMAP, Cases, Server, curl, feature, free_port, status_of
 
 # The greatest exposure of each unit, by systemd-analyze.
 EXPOSURE = {
@@ -48,7 +48,7 @@ def unit(name):
     return os.path.join(TOP, "docs", name)
 
 
-def judged(cases):
+def judged(cases: Cases) -> None:
     """What systemd-analyze says of the units."""
     for name, most in EXPOSURE.items():
         timer = [path for path in [unit(name.replace(".service", ".timer"))] if os.path.exists(path)]
@@ -103,7 +103,7 @@ def session(folder):
     return [status_of(reply) for reply in replies], calls, lines
 
 
-def tasks(cases, folder):
+def tasks(cases: Cases, folder: str) -> None:
     """Runs what these units run, and shows the system calls that they don't allow."""
     with Server(folder, "timed", 4096) as server:
         for name, words in TASKS.items():
@@ -115,7 +115,7 @@ def tasks(cases, folder):
             cases.show(f"units: what {name} runs, and system calls that it doesn't allow", (ran.returncode, sorted(calls - filtered(name) - OF_ROOT)), (0, []))
 
 
-def gateway(cases, folder):
+def gateway(cases: Cases, folder: str) -> None:
     """The system calls of `vtmap wfs`, which is read and saves a shape that GDAL cuts, and its memory."""
     trace = os.path.join(folder, "gateway.trace")
     words = ["--state", os.path.join(folder, "gateway.state"), "--layer", "park:areas:name=text"]
@@ -136,7 +136,7 @@ def gateway(cases, folder):
     cases.show("units: memory of it that is writable and executable", [line for line in lines if "PROT_WRITE|PROT_EXEC" in line], [])
 
 
-def pictures(cases, folder):
+def pictures(cases: Cases, folder: str) -> None:
     """The system calls of `vtmap wmts` and of the processes that draw, and their memory."""
     trace = os.path.join(folder, "drawer.trace")
     with Server(folder, "drawn", 4096) as server, Drawer(folder, server.url, under=["strace", "-f", "-o", trace]) as drawer:
@@ -153,7 +153,7 @@ def pictures(cases, folder):
     cases.show("units: memory of it that is writable and executable", [line for line in lines if "PROT_WRITE|PROT_EXEC" in line], [])
 
 
-def told_alive(cases, folder):
+def told_alive(cases: Cases, folder: str) -> None:
     """What systemd is told by `vtmap wfs`, whose unit has a watchdog: that it answers, and nothing while it doesn't."""
     path, names = os.path.join(folder, "notify"), ("NOTIFY_SOCKET", "WATCHDOG_USEC")
 
@@ -199,7 +199,7 @@ def lines_of(name):
         return file.read().replace("\\\n", " ").splitlines()
 
 
-def causes(cases, folder):
+def causes(cases: Cases, folder: str) -> None:
     """What the journal has of a server that can't start, by the command of its unit."""
     command, = (line for line in lines_of("vtserve.service") if line.startswith("ExecStart="))
     missing = os.path.join(folder, "missing.disk")
@@ -217,7 +217,7 @@ def causes(cases, folder):
         cases.show(f"units: nor before what comes first, vtserve-{name}.timer", [key for key, _, _ in lines if key == "OnBootSec"], [])
 
 
-def backups(cases, folder):
+def backups(cases: Cases, folder: str) -> None:
     """What vtmap watch says of the folder of the backups."""
     kept = os.path.join(folder, "backups")
     os.mkdir(kept)
@@ -247,7 +247,7 @@ def backups(cases, folder):
     cases.show("units: vtmap watch, no folder of backups and no server", watched()[0], 2)
 
 
-def units(cases, folder):
+def units(cases: Cases, folder: str) -> None:
     """The units, and whether the filter of system calls has all that the process needs."""
     causes(cases, folder)
     backups(cases, folder)

@@ -12,7 +12,7 @@ from collections import Counter
 
 from .between import Between, once
 from .import_stand import has_gdal, import_of, imported, is_near, row, shown, square, world, written
-from .stand import Server, curl, feature, status_of
+from .stand import Cases, Server, curl, feature, status_of
 
 EDITS = "/admin/edits"
 
@@ -40,7 +40,7 @@ def points(count, **tags):
     return [row("Point", [at / 100, at / 100], nr=at, name=f"point {at}", **tags) for at in range(1, count + 1)]
 
 
-def six_files(cases, folder):
+def six_files(cases: Cases, folder: str) -> None:
     """Six files one after the other: each has its ids, and what one has no other gets."""
     counts = {"roads": 150, "rivers": 70, "parcels": 200, "wells": 10, "paths": 64, "trees": 65}
     files = {name: written(folder, f"{name}.geojson", points(count, of=name)) for name, count in counts.items()}
@@ -70,7 +70,7 @@ def six_files(cases, folder):
         cases.show("updates: and is taken as it comes", (code, known), (0, list(range(7, 17))))
 
 
-def differences(cases, folder):
+def differences(cases: Cases, folder: str) -> None:
     """A file that is imported each day: what differs is sent, and nothing else."""
     rows = points(200)
     words = ["--layer", "p", "--id", "nr", "--update", "--base", os.path.join(folder, "daily.base")]
@@ -99,7 +99,7 @@ def differences(cases, folder):
         cases.show("updates: no geometry is no failure, and deletes nothing", (code, said, lines[-1]), (0, True, "0 new, 0 changed, 0 deleted, 210 unchanged"))
 
 
-def refused_ones(cases, folder):
+def refused_ones(cases: Cases, folder: str) -> None:
     """Features of the file that are refused: those that the map has stay. Where the id of one isn't known, nothing is deleted."""
     def rows(*changes):
         made = points(5)
@@ -140,7 +140,7 @@ def refused_ones(cases, folder):
                    (1, "0 new, 0 changed, 0 deleted, 3 unchanged, 1 refused", [note], names))
 
 
-def large_ones(cases, folder):
+def large_ones(cases: Cases, folder: str) -> None:
     """A large feature is one for people: its pieces are counted as one, and none is left when it becomes small."""
     words = ["--layer", "s", "--minzoom", "12", "--id", "nr", "--update"]
     with Server(folder, "pieces", 65536) as server:
@@ -156,7 +156,7 @@ def large_ones(cases, folder):
         cases.show("updates: tags that only look like those of pieces", (said, again), same)
 
 
-def like_outlines(cases, folder):
+def like_outlines(cases: Cases, folder: str) -> None:
     """A layer whose name ends as those of outlines do is nobody else's."""
     words = ["--minzoom", "12", "--id", "nr", "--update", "--delete-missing"]
     with Server(folder, "outlines", 65536) as server:
@@ -174,7 +174,7 @@ def like_outlines(cases, folder):
         cases.show("updates: its own outline goes with it, the others stay", (said, layers(server)), wanted)
 
 
-def by_texts(cases, folder):
+def by_texts(cases: Cases, folder: str) -> None:
     """Ids of texts, in a file of the map's own."""
     def named(names):
         return [{**row("Point", [at / 10, 1], name=name), "id": name} for at, name in enumerate(names)]
@@ -212,7 +212,7 @@ def by_texts(cases, folder):
         cases.show("updates: GeoJSON's own ids", (code, sorted(places), is_near(places[502], [world(1, 1)])), (0, [500, 501, 502], True))
 
 
-def others_meanwhile(cases, folder):
+def others_meanwhile(cases: Cases, folder: str) -> None:
     """Somebody else edits a feature after the import has looked; a reply is lost; an import is killed."""
     words = ["--layer", "p", "--id", "nr", "--update", "--base", os.path.join(folder, "meanwhile.base")]
     path = written(folder, "meanwhile.geojson", points(100))
@@ -282,7 +282,7 @@ def tables(cases, folder, server):
     cases.show("updates: each layer of a GeoPackage by its name", (code, found.get("alpha"), found.get("beta")), (0, 200, 1))
 
 
-def updates(cases, folder):
+def updates(cases: Cases, folder: str) -> None:
     """Imports again and again."""
     if not has_gdal(cases):
         return

@@ -9,13 +9,13 @@ import time
 from .between import Between, once
 from .gateways import GML, XML, Gateway, Gis, edits_at, feature_at, map_at, point, put_at, text_of, triangle
 from .pages import town
-from .stand import HALF, Server, curl, field, status_of
+from .stand import HALF, Cases, Server, curl, field, status_of
 
 EDITS = "/admin/edits"
 LAYERS = ["building.areas", "land.areas", "park.areas", "place.points", "road.lines"]
 
 
-def wfs(cases, folder):
+def wfs(cases: Cases, folder: str) -> None:
     """All of it."""
     folder = os.path.join(folder, "wfs")
     os.mkdir(folder)
@@ -342,7 +342,7 @@ def raced(cases, folder, server):
     cases.say(f"{counts[True]} saves, {counts[False]} conflicts")
 
 
-def odd(cases, folder):
+def odd(cases: Cases, folder: str) -> None:
     """Odd names and values, mixed kinds, a layer that the map doesn't have yet."""
     tags = {"addr:street": "A", "name": "n", "Name": "N", "minzoom": "tag", "geom": "g", "fid": 5, "gml_id": "q", "1st": "1", "ä ö": "ü", "a.b": "dot",
             "x_x0041_y": "esc", "_": "under", "-": "minus", "日本": "jp", "lines": " two\nlines\r\n\tand blanks ", "ctrl": "a\x01b", "int": -5,
@@ -371,7 +371,7 @@ def odd(cases, folder):
             cases.show("wfs: a layer that the map doesn't have yet", (told[:7], made["layer"], made["tags"]), ("SUCCESS", "tree spots", wanted))
 
 
-def full(cases, folder):
+def full(cases: Cases, folder: str) -> None:
     """A journal without room."""
     with Server(folder, "full", sectors=256) as server:
         for number in range(1, 31):

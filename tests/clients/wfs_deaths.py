@@ -10,14 +10,14 @@ import time
 from .between import Between
 from .gateways import Gateway, Gis, edits_at, feature_at, map_at, point, put_at, text_of
 from .pages import town
-from .stand import VTMAP, Server, curl, feature, free_port
+from .stand import VTMAP, Cases, Server, curl, feature, free_port
 
 EDITS = "/admin/edits"
 # 200 features are four edits.
 IDS = range(133, 333)
 
 
-def wfs_deaths(cases, folder):
+def wfs_deaths(cases: Cases, folder: str) -> None:
     """All of it."""
     folder = os.path.join(folder, "deaths")
     os.mkdir(folder)
@@ -149,7 +149,7 @@ def restarted(cases, folder, server):
             cases.show("wfs: and after F5", again, "SUCCESS")
 
 
-def waiting(cases, folder):
+def waiting(cases: Cases, folder: str) -> None:
     """A gateway that begins before its server, and two with one file."""
     port, state = free_port(), os.path.join(folder, "waiting")
     with Gateway(folder, f"http://127.0.0.1:{port}", "--state", state) as gateway:
@@ -202,7 +202,7 @@ def unwritable(cases, folder, server):
         cases.show("wfs: and it is saved", gis.save(gis.update(133, floors=3)), "SUCCESS")
 
 
-def server_killed(cases, folder):
+def server_killed(cases: Cases, folder: str) -> None:
     """The server is killed in the middle of a save, and started again: what was made is undone by the next request."""
     for at in (1, 3):
         name, disk = f"wfs: a server that is killed at edit {at} of 4", f"killed {at}"

@@ -19,14 +19,14 @@ from vtmap.gateway import filters, live_map, sessions, tables, wfs, wfs_texts
 
 from .gateways import GML, Gateway, Gis, edits_at, feature_at, map_at, point, put_at, text_of
 from .import_stand import has_gdal
-from .stand import VTMAP, Server, curl, feature, field, status_of
+from .stand import VTMAP, Cases, Server, curl, feature, field, status_of
 
 LAYER, TAG, VALUE = "p\"><script>'&", 'k" onload="<x>', "]]></a><script>1</script>&\"'\x0b"
 FORGED = "p\n2026-11-29 12:00:00  1  anna  deleted p 1\x1b[2J\x9b2J"
 HEAD = "POST /wfs HTTP/1.1\r\nHost: 127.0.0.1:{port}\r\nContent-Type: text/xml\r\nContent-Length: 1000\r\n\r\n<a>"
 
 
-def wfs_hostile(cases, folder):
+def wfs_hostile(cases: Cases, folder: str) -> None:
     """All of it."""
     folder = os.path.join(folder, "wfs-hostile")
     os.mkdir(folder)
@@ -154,7 +154,7 @@ def slowly(pattern, text):
     return bool(text) and (pattern[0] == "?" or letter == text[0]) and slowly(rest, text[1:])
 
 
-def patterns(cases):
+def patterns(cases: Cases) -> None:
     """Random patterns beside a slow reference."""
     chance, differ = random.Random(5), []
     like = tree.Element("PropertyIsLike", {"wildCard": "*", "singleChar": "?", "escapeChar": "!"})
@@ -259,7 +259,7 @@ def stopped_bodies(cases, gateway):
         peer.close()
 
 
-def many_sessions(cases):
+def many_sessions(cases: Cases) -> None:
     """Sessions by names that somebody makes up, and many that have saved."""
     made = sessions.Sessions()
     for at in range(50_000):
@@ -275,7 +275,7 @@ def many_sessions(cases):
     cases.show("wfs-hostile: 10,000 others are kept, and all that have saved are among them", found, (10_000, True))
 
 
-def unlocked(cases):
+def unlocked(cases: Cases) -> None:
     """While features are chosen and written others have the map."""
     live, seen = live_map.LiveMap(None, {}), []
     live.take({7: {"layer": "p", "minzoom": 0, "maxzoom": 2, "geometry": {"points": [[0, 0]]}, "tags": {}}})

@@ -8,7 +8,7 @@ import subprocess
 from .desktop import run
 from .gateways import Gateway, edits_at, feature_at, map_at, put_at
 from .pages import town
-from .stand import SYSTEM_PYTHON, VTMAP, Nginx, Server
+from .stand import SYSTEM_PYTHON, VTMAP, Cases, Nginx, Server
 
 QGIS = """
 import json, os, sys, urllib.request
@@ -190,7 +190,7 @@ for words in ("username='ann' password='secret' ", "username='ann' password='wro
 """
 
 
-def wfs_qgis(cases, folder):
+def wfs_qgis(cases: Cases, folder: str) -> None:
     """All of it."""
     if subprocess.run([SYSTEM_PYTHON, "-c", "import qgis.core, osgeo"], capture_output=True).returncode != 0:
         cases.say("no QGIS or no GDAL in the system's Python: no QGIS edits the live map")

@@ -6,13 +6,13 @@ import os
 import random
 
 from .gateways import Gateway, Gis, map_at, point
-from .stand import Server, curl
+from .stand import Cases, Server, curl
 
 STEPS, SEED = 160, 29
 TAGS = ("a", "b")
 
 
-def wfs_random(cases, folder):
+def wfs_random(cases: Cases, folder: str) -> None:
     """All of it."""
     folder = os.path.join(folder, "random")
     os.mkdir(folder)

@@ -5,10 +5,10 @@ import re
 
 from .gateways import XML, Gateway, Gis, edits_at, feature_at, map_at, point, text_of
 from .pages import town
-from .stand import Server, curl
+from .stand import Cases, Server, curl
 
 
-def wfs_tables(cases, folder):
+def wfs_tables(cases: Cases, folder: str) -> None:
     """All of it."""
     folder = os.path.join(folder, "wfs-tables")
     os.mkdir(folder)

@@ -13,7 +13,7 @@ from vtmap.command_line import COMMANDS
 from vtmap.systems import LOCKED
 
 from .import_stand import has_gdal, row, written
-from .stand import HERE, SYSTEM_PYTHON, TOP, Server, curl, feature, free_port
+from .stand import HERE, SYSTEM_PYTHON, TOP, Cases, Server, curl, feature, free_port
 
 STAND_IN = [SYSTEM_PYTHON, os.path.join(HERE, "windows_stand_in.py")]
 # A name that cp1252 hasn't got, and one that isn't even in one unit of UTF-16.
@@ -62,7 +62,7 @@ class Office:
             return file.read()
 
 
-def windows(cases, folder):
+def windows(cases: Cases, folder: str) -> None:
     """Each command that an office uses."""
     if not has_gdal(cases):
         return
