@@ -57,7 +57,7 @@ def page_of(name):
 # How scripts that aren't vtmap's are looked at: they run on the gate's Python alone.
 UNKEPT = ["--cache-dir", os.devnull]
 TYPED = ["--python-version", "3.11", "--disallow-untyped-defs", *UNKEPT]
-SCRIPTS = ["tests/page_lists.py", "tests/crate_names.py", "tests/promises.py"]
+SCRIPTS = ["tests/page_lists.py", "tests/crate_names.py", "tests/promises.py", "tests/columns.py"]
 
 # The longest ones first, so that no processor waits at the end.
 PARTS = [
@@ -105,6 +105,7 @@ PARTS = [
     Part("page", [PYTHON, "tests/page/run.py"], ("node",)),
     Part("refusals", [PYTHON, "-m", "vtmap.client.refusals", "check"]),
     Part("promises", [PYTHON, "tests/promises.py"]),
+    Part("columns", [PYTHON, "tests/columns.py"]),
     Part("lists", [PYTHON, "tests/documents.py", "--lists"]),
     Part("mutants", [PYTHON, "bench/mutants/try.py", "--fits"]),
     Part("nginx.conf", ["nginx", "-t", "-q", "-p", SCRATCH, "-c", os.path.join(TOP, "docs", "nginx.conf")], ("nginx",)),

@@ -1,4 +1,5 @@
-"""The part `admin` of run.py: the paths under `/admin/`, with `--admin` and without, and the scripts that stand on them."""
+"""The part `admin` of run.py: the paths under `/admin/`, with `--admin` and without, and the scripts that stand on
+them."""
 import json
 import os
 import subprocess
@@ -12,8 +13,23 @@ MANY = 200
 
 def status(**changes):
     """The status of a fresh disk of 4,096 sectors, by HTTP.md, with changes."""
-    first = {"archive": 0, "area": {"sectors": 1534, "used": 0}, "broken": False, "cells": 1024, "drafting": None, "edits": 0, "features": 0, "generation": 0,
-             "journal": {"places": 1024, "used": 0}, "last": None, "left": None, "published": 0, "sectors": 4096, "stale": 0, "version": 2}
+    first = {
+        "archive": 0,
+        "area": {"sectors": 1534, "used": 0},
+        "broken": False,
+        "cells": 1024,
+        "drafting": None,
+        "edits": 0,
+        "features": 0,
+        "generation": 0,
+        "journal": {"places": 1024, "used": 0},
+        "last": None,
+        "left": None,
+        "published": 0,
+        "sectors": 4096,
+        "stale": 0,
+        "version": 2,
+    }
     return wanted(200, JSON, json.dumps({**first, **changes}, separators=(",", ":")))
 
 
@@ -37,11 +53,26 @@ def without(cases: Cases, folder: str) -> None:
     with Server(folder, "public", more=()) as server:
         for path in (STATUS, FROM + "0"):
             for method in ("GET", "POST", "DELETE"):
-                same(cases, f"without --admin: {method} {path}", curl(server.url + path, "-X", method), refusal(404, "NotFound"))
+                same(
+                    cases,
+                    f"without --admin: {method} {path}",
+                    curl(server.url + path, "-X", method),
+                    refusal(404, "NotFound"),
+                )
         lines = script("save", os.path.join(folder, "none.geojson"), "--url", server.url)
-        cases.show("without --admin: a back-up says what is missing", lines,
-                   (1, ["the server doesn't list its features: start it with --admin, or give --disk, --numbers or --archive"]))
-        cases.show("without --admin: vtmap watch", script("watch", "--url", server.url), (3, [f"{server.url}: 404: is the server started with --admin?"]))
+        cases.show(
+            "without --admin: a back-up says what is missing",
+            lines,
+            (
+                1,
+                ["the server doesn't list its features: start it with --admin, or give --disk, --numbers or --archive"],
+            ),
+        )
+        cases.show(
+            "without --admin: vtmap watch",
+            script("watch", "--url", server.url),
+            (3, [f"{server.url}: 404: is the server started with --admin?"]),
+        )
 
 
 def statuses(cases, server):
@@ -53,13 +84,25 @@ def statuses(cases, server):
     curl(url + "/publish/begin", "-X", "POST")
     same(cases, "status: a publication under way", curl(url + STATUS), status(**one, left=3))
     curl(url + "/publish/step", "-X", "POST")
-    done = {**one, "archive": 223, "area": {"sectors": 1534, "used": 2}, "generation": 1, "published": 1, "journal": {"places": 1024, "used": 0},
-            "stale": 0}
+    done = {
+        **one,
+        "archive": 223,
+        "area": {"sectors": 1534, "used": 2},
+        "generation": 1,
+        "published": 1,
+        "journal": {"places": 1024, "used": 0},
+        "stale": 0,
+    }
     same(cases, "status: it is installed", curl(url + STATUS), status(**done))
     curl(url + "/features/7", "-X", "DELETE")
     empty = {**done, "edits": 2, "features": 0, "journal": {"places": 1024, "used": 1}, "last": None, "stale": 1}
     same(cases, "status: nothing is left of the map", curl(url + STATUS), status(**empty))
-    same(cases, "status: another method", curl(url + STATUS, "-X", "PUT", body="{}"), refusal(405, "Method", more=[("allow", "GET, HEAD")]))
+    same(
+        cases,
+        "status: another method",
+        curl(url + STATUS, "-X", "PUT", body="{}"),
+        refusal(405, "Method", more=[("allow", "GET, HEAD")]),
+    )
 
 
 def listing(cases, server):
@@ -80,10 +123,18 @@ def listing(cases, server):
 
 
 def watched(cases, server):
-    cases.show("vtmap watch: nothing to do", script("watch", "--url", server.url), (0, [f"{MANY} features, edit 6, generation 1: nothing to do"]))
+    cases.show(
+        "vtmap watch: nothing to do",
+        script("watch", "--url", server.url),
+        (0, [f"{MANY} features, edit 6, generation 1: nothing to do"]),
+    )
     code, lines = script("watch", "--url", server.url, "--at", "1")
     # A batch of 64 points has 1,600 bytes, which take four sectors; the last batch and the deletion take one each.
-    cases.show("vtmap watch: the journal", (code, lines), (1, ["14 of the 1,024 sectors of the journal are used: publish (`vtmap publish`)"]))
+    cases.show(
+        "vtmap watch: the journal",
+        (code, lines),
+        (1, ["14 of the 1,024 sectors of the journal are used: publish (`vtmap publish`)"]),
+    )
 
 
 def saved(cases, folder, server):
@@ -93,7 +144,9 @@ def saved(cases, folder, server):
         name = os.path.basename(file)
         cases.show(f"back-up: {name}", script("save", file, "--url", server.url), (0, [f"{MANY} features saved"]))
         with Server(folder, name + ".disk", more=["--admin"]) as other:
-            cases.show(f"back-up: {name} put back", script("load", file, "--url", other.url), (0, [f"{MANY} features put"]))
+            cases.show(
+                f"back-up: {name} put back", script("load", file, "--url", other.url), (0, [f"{MANY} features put"])
+            )
             again = file + ".again" + os.path.splitext(file)[1]
             script("save", again, "--url", other.url)
             cases.show(f"back-up: {name} is the same again", open(again, "rb").read() == open(file, "rb").read(), True)
@@ -109,7 +162,11 @@ def piped(cases: Cases, folder: str) -> None:
     disk = os.path.join(folder, "piped")
     subprocess.run([PROGRAM, "format", disk, "--sectors", "64"], check=True, stdout=subprocess.DEVNULL)
     for words in (["demo", "64"], ["pipe", disk]):
-        told = subprocess.run([PROGRAM, *words, "--admin"], input=sent, capture_output=True, check=False).stdout.partition(b"\r\n\r\n")[2]
+        told = subprocess.run(
+            [PROGRAM, *words, "--admin"], input=sent, capture_output=True, check=False
+        ).stdout.partition(b"\r\n\r\n")[2]
         cases.show(f"{words[0]} --admin", told, content)
-        told = subprocess.run([PROGRAM, *words], input=sent, capture_output=True, check=False).stdout.partition(b"\r\n\r\n")[2]
+        told = subprocess.run([PROGRAM, *words], input=sent, capture_output=True, check=False).stdout.partition(
+            b"\r\n\r\n"
+        )[2]
         cases.show(f"{words[0]} without it", told, b"NotFound\n")

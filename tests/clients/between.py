@@ -1,5 +1,5 @@
-"""A stand-in for what happens between a script and the server: requests are passed on, some after something else has happened, some without
-a reply, and some not at all, which a proxy may answer."""
+"""A stand-in for what happens between a script and the server: requests are passed on, some after something else has
+happened, some without a reply, and some not at all, which a proxy may answer."""
 import http.client
 import http.server
 import sys
@@ -68,10 +68,17 @@ class Port(http.server.ThreadingHTTPServer):
 
 
 class Between:
-    """A port whose requests are passed on to a server. `before(method, path)` is called first; a reply is lost if `loses(method, path)`. If
-    `instead(method, path)` is a status and a content, these are the reply, and the server isn't asked."""
+    """A port whose requests are passed on to a server. `before(method, path)` is called first; a reply is lost if
+    `loses(method, path)`. If `instead(method, path)` is a status and a content, these are the reply, and the server
+    isn't asked."""
 
-    def __init__(self, server: Any, before: Callable[[str, str], object] = lambda *_: None, loses: Callable[[str, str], object] = lambda *_: False, instead: Callable[[str, str], Any] = lambda *_: None) -> None:
+    def __init__(
+        self,
+        server: Any,
+        before: Callable[[str, str], object] = lambda *_: None,
+        loses: Callable[[str, str], object] = lambda *_: False,
+        instead: Callable[[str, str], Any] = lambda *_: None,
+    ) -> None:
         self.port: int = server.port
         self.before, self.loses, self.instead = before, loses, instead
         self.asked: list[tuple[str, str, Optional[str]]] = []

@@ -1,6 +1,8 @@
-"""A Chromium without a window that a test drives as a person would: by the mouse, the keyboard, and what is on the screen.
+"""A Chromium without a window that a test drives as a person would: by the mouse, the keyboard, and what is on the
+screen.
 
-It is spoken to by the DevTools protocol over two pipes (`--remote-debugging-pipe`), so nothing but the browser is needed.
+It is spoken to by the DevTools protocol over two pipes (`--remote-debugging-pipe`), so nothing but the browser is
+needed.
 """
 import base64
 import json
@@ -14,8 +16,20 @@ from typing import Any, Optional
 # The size of its window in pixels.
 WIDE, HIGH = 1000, 640
 # The numbers of keys that write nothing.
-KEYS = {"Backspace": 8, "Tab": 9, "Enter": 13, "Escape": 27, " ": 32, "PageUp": 33, "PageDown": 34, "ArrowLeft": 37, "ArrowUp": 38, "ArrowRight": 39,
-        "ArrowDown": 40, "Delete": 46}
+KEYS = {
+    "Backspace": 8,
+    "Tab": 9,
+    "Enter": 13,
+    "Escape": 27,
+    " ": 32,
+    "PageUp": 33,
+    "PageDown": 34,
+    "ArrowLeft": 37,
+    "ArrowUp": 38,
+    "ArrowRight": 39,
+    "ArrowDown": 40,
+    "Delete": 46,
+}
 SHIFT, CONTROL = 8, 2
 
 
@@ -31,7 +45,15 @@ class Browser:
         self.read, from_browser = os.pipe()
         # The browser reads its descriptor 3 and writes its descriptor 4.
         place = f'exec 3<&{to_browser} 4>&{from_browser}; exec "$@"'
-        words = ["chromium", "--headless=new", "--no-sandbox", "--remote-debugging-pipe", "--hide-scrollbars", "--no-first-run", *more]
+        words = [
+            "chromium",
+            "--headless=new",
+            "--no-sandbox",
+            "--remote-debugging-pipe",
+            "--hide-scrollbars",
+            "--no-first-run",
+            *more,
+        ]
         words += [f"--user-data-dir={folder}", f"--window-size={wide},{high}", "about:blank"]
         self.size = wide, high
         self.child = subprocess.Popen(
@@ -70,7 +92,9 @@ class Browser:
 
     def open(self, url: str) -> "Page":
         """A page of its own at an address."""
-        target = self.ask("Target.createTarget", url="about:blank", newWindow=True, width=self.size[0], height=self.size[1])["targetId"]
+        target = self.ask(
+            "Target.createTarget", url="about:blank", newWindow=True, width=self.size[0], height=self.size[1]
+        )["targetId"]
         page = Page(self, self.ask("Target.attachToTarget", targetId=target, flatten=True)["sessionId"], target)
         wide, high = self.size
         page.ask("Emulation.setDeviceMetricsOverride", width=wide, height=high, deviceScaleFactor=1, mobile=False)
@@ -118,7 +142,16 @@ class Page:
 
     def mouse(self, kind: str, x: float, y: float, button: str = "left", clicks: int = 1, keys: int = 0) -> None:
         buttons = 1 if button == "left" else 2
-        self.ask("Input.dispatchMouseEvent", type=kind, x=x, y=y, button=button, clickCount=clicks, buttons=buttons, modifiers=keys)
+        self.ask(
+            "Input.dispatchMouseEvent",
+            type=kind,
+            x=x,
+            y=y,
+            button=button,
+            clickCount=clicks,
+            buttons=buttons,
+            modifiers=keys,
+        )
 
     def click(self, x: float, y: float, button: str = "left", clicks: int = 1) -> None:
         """Clicks at a point of the screen."""
@@ -139,7 +172,8 @@ class Page:
         """Clicks at the button, or the word, that has a text."""
         script = f"""(() => {{
             const all = [...document.querySelectorAll("button, summary")];
-            const found = all.find(each => each.textContent === {json.dumps(text)} && each.offsetParent && !each.disabled);
+            const isFound = each => each.textContent === {json.dumps(text)} && each.offsetParent && !each.disabled;
+            const found = all.find(isFound);
             found?.scrollIntoView({{block: "nearest"}});
             const box = found?.getBoundingClientRect();
             return box ? [box.x + box.width / 2, box.y + box.height / 2] : null;
@@ -151,7 +185,10 @@ class Page:
 
     def type(self, selector: str, text: str) -> None:
         """Types a text into a field in place of what it has."""
-        self.value(f"(() => {{ const field = document.querySelector({json.dumps(selector)}); field.focus(); field.select?.(); }})()")
+        self.value(
+            f"(() => {{ const field = document.querySelector({json.dumps(selector)}); field.focus(); field.select?.();"
+            " })()"
+        )
         self.ask("Input.insertText", text=text)
 
     def key(self, key: str, code: int = 0, modifiers: int = 0) -> None:
@@ -161,7 +198,15 @@ class Page:
         name = "Space" if key == " " else key if len(key) > 1 else f"Key{key.upper()}" if key.isalpha() else ""
         for kind in ("keyDown" if text else "rawKeyDown", "keyUp"):
             more = {"text": text} if kind == "keyDown" else {}
-            self.ask("Input.dispatchKeyEvent", type=kind, key=key, code=name, windowsVirtualKeyCode=code, modifiers=modifiers, **more)
+            self.ask(
+                "Input.dispatchKeyEvent",
+                type=kind,
+                key=key,
+                code=name,
+                windowsVirtualKeyCode=code,
+                modifiers=modifiers,
+                **more,
+            )
 
     def text(self, selector: str) -> Optional[str]:
         """The text of an element, or None."""
@@ -175,6 +220,18 @@ class Page:
     def faults(self) -> list[str]:
         """What the page and the browser complained of."""
         self.value("0")
-        mine = [(event["method"], event["params"]) for event in self.browser.events if event.get("sessionId") == self.session]
-        thrown = [words["exceptionDetails"].get("exception", {}).get("description", "") for name, words in mine if name == "Runtime.exceptionThrown"]
-        return thrown + [words["entry"]["text"] for name, words in mine if name == "Log.entryAdded" and words["entry"]["level"] == "error"]
+        mine = [
+            (event["method"], event["params"])
+            for event in self.browser.events
+            if event.get("sessionId") == self.session
+        ]
+        thrown = [
+            words["exceptionDetails"].get("exception", {}).get("description", "")
+            for name, words in mine
+            if name == "Runtime.exceptionThrown"
+        ]
+        return thrown + [
+            words["entry"]["text"]
+            for name, words in mine
+            if name == "Log.entryAdded" and words["entry"]["level"] == "error"
+        ]

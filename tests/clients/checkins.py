@@ -1,5 +1,6 @@
-"""The part `checkins` of run.py: new features of `vtmap checkin` whose edit was refused, or whose reply was lost, and what their author and others
-do before the next check-in. Each is made once, under an id of its own, and replaces nothing of others. A row is added by SQL, as QGIS adds it.
+"""The part `checkins` of run.py: new features of `vtmap checkin` whose edit was refused, or whose reply was lost,
+and what their author and others do before the next check-in. Each is made once, under an id of its own, and replaces
+nothing of others. A row is added by SQL, as QGIS adds it.
 """
 import json
 import os
@@ -47,7 +48,12 @@ class Desk:
         for number in (1, 2, 3):
             curl(f"{server.url}/features/{number}", "-X", "PUT", body=point(f"old {number}"))
         if has_areas:
-            curl(f"{server.url}/features/4", "-X", "PUT", body=feature("area", 10, 16, square(1000), {"name": "old area"}))
+            curl(
+                f"{server.url}/features/4",
+                "-X",
+                "PUT",
+                body=feature("area", 10, 16, square(1000), {"name": "old area"}),
+            )
         gis("checkout", self.file, "--url", server.url)
 
     def sql(self, *statements):
@@ -59,7 +65,9 @@ class Desk:
 
     def add(self, name):
         """A new place."""
-        self.sql(("INSERT INTO place (geom, name, minzoom, maxzoom) SELECT geom, ?, 10, 16 FROM place WHERE fid = 1", name))
+        self.sql(
+            ("INSERT INTO place (geom, name, minzoom, maxzoom) SELECT geom, ?, 10, 16 FROM place WHERE fid = 1", name)
+        )
 
     def add_area(self, name, side):
         """A new area."""
@@ -75,7 +83,8 @@ class Desk:
         return code, lines[-1], lines
 
     def lost(self, is_made=True):
-        """A check-in whose first edit gets no reply, and is made or not; the server doesn't answer from then on. Returns its status."""
+        """A check-in whose first edit gets no reply, and is made or not; the server doesn't answer from then on.
+        Returns its status."""
         gone = []
 
         def instead(_, path):
@@ -103,10 +112,18 @@ def refused_before(cases: Cases, folder: str) -> None:
     with Server(folder, "refused_before") as server:
         desk = Desk(folder, "refused_before", server)
         desk.add(LONG)
-        cases.show("checkins: a new feature that the server refuses", desk.checkin()[:2], (1, "0 new, 0 changed, 0 deleted, 0 conflicts, 1 refused"))
+        cases.show(
+            "checkins: a new feature that the server refuses",
+            desk.checkin()[:2],
+            (1, "0 new, 0 changed, 0 deleted, 0 conflicts, 1 refused"),
+        )
         desk.rename(LONG, "first")
         desk.add("second")
-        cases.show("checkins: it is corrected, and another one is added", desk.checkin()[:2], (0, "2 new, 0 changed, 0 deleted, 0 conflicts, 0 refused"))
+        cases.show(
+            "checkins: it is corrected, and another one is added",
+            desk.checkin()[:2],
+            (0, "2 new, 0 changed, 0 deleted, 0 conflicts, 0 refused"),
+        )
         cases.show("checkins: each has an id of its own", desk.names(), {4: "first", 5: "second"})
         cases.show("checkins: and the file has nothing more to send", desk.checkin()[1:], (QUIET, [QUIET]))
 
@@ -118,7 +135,11 @@ def noted_twice(cases: Cases, folder: str) -> None:
         desk.add("first")
         desk.add("second")
         desk.sql(*(("INSERT INTO gpkg_vtserve_features VALUES ('place', ?, 9, '{}', NULL)", fid) for fid in (4, 5)))
-        cases.show("checkins: an id that is noted twice", desk.checkin()[1], "2 new, 0 changed, 0 deleted, 0 conflicts, 0 refused")
+        cases.show(
+            "checkins: an id that is noted twice",
+            desk.checkin()[1],
+            "2 new, 0 changed, 0 deleted, 0 conflicts, 0 refused",
+        )
         cases.show("checkins: is that of the first", desk.names(), {4: "second", 9: "first"})
     with Server(folder, "never_made") as server:
         desk = Desk(folder, "never_made", server)
@@ -129,9 +150,22 @@ def noted_twice(cases: Cases, folder: str) -> None:
         row = "INSERT INTO gpkg_vtserve_features VALUES ('place', ?, 4, ?, NULL)"
         desk.sql(("DELETE FROM place WHERE fid > 3",))
         for fid, name in ((6, "first"), (7, "second")):
-            desk.sql(("INSERT INTO place (fid, geom, name, minzoom, maxzoom) SELECT ?, geom, ?, 10, 16 FROM place WHERE fid = 1", fid, name))
+            desk.sql(
+                (
+                    (
+                        "INSERT INTO place (fid, geom, name, minzoom, maxzoom) SELECT ?, geom, ?, 10, 16 FROM place"
+                        " WHERE fid = 1"
+                    ),
+                    fid,
+                    name,
+                )
+            )
         desk.sql((row, 6, "{}"), (row, 7, never))
-        cases.show("checkins: one that was never made, but remembered", desk.checkin()[1], "2 new, 0 changed, 0 deleted, 0 conflicts, 0 refused")
+        cases.show(
+            "checkins: one that was never made, but remembered",
+            desk.checkin()[1],
+            "2 new, 0 changed, 0 deleted, 0 conflicts, 0 refused",
+        )
         cases.show("checkins: is made", desk.names(), {4: "first", 5: "second"})
 
 
@@ -158,7 +192,11 @@ def lost_reply(cases: Cases, folder: str) -> None:
         cases.show("checkins: a reply that is lost", (desk.lost(), desk.names()), (3, {4: "mine"}))
         desk.rename("mine", "mine again")
         wanted = (0, "1 new, 1 changed, 0 deleted, 0 conflicts, 0 refused")
-        cases.show("checkins: the feature is edited, and checked in", (desk.checkin()[:2], desk.names()), (wanted, {4: "mine again"}))
+        cases.show(
+            "checkins: the feature is edited, and checked in",
+            (desk.checkin()[:2], desk.names()),
+            (wanted, {4: "mine again"}),
+        )
         cases.show("checkins: and the file has nothing more to send", desk.checkin()[1:], (QUIET, [QUIET]))
         desk.add("second")
         desk.lost()
@@ -166,12 +204,18 @@ def lost_reply(cases: Cases, folder: str) -> None:
         desk.lost(is_made=False)
         desk.rename("second again", "at last")
         code, _, _ = desk.checkin()
-        cases.show("checkins: lost twice, made and not made", (code, desk.names()), (0, {4: "mine again", 5: "at last"}))
+        cases.show(
+            "checkins: lost twice, made and not made", (code, desk.names()), (0, {4: "mine again", 5: "at last"})
+        )
         desk.add("gone")
         desk.lost()
         desk.sql(("DELETE FROM place WHERE name = 'gone'",))
         wanted = (0, "1 new, 0 changed, 1 deleted, 0 conflicts, 0 refused")
-        cases.show("checkins: a new feature is deleted again", (desk.checkin()[:2], desk.names()), (wanted, {4: "mine again", 5: "at last"}))
+        cases.show(
+            "checkins: a new feature is deleted again",
+            (desk.checkin()[:2], desk.names()),
+            (wanted, {4: "mine again", 5: "at last"}),
+        )
 
 
 def changed_by_others(cases: Cases, folder: str) -> None:
@@ -182,18 +226,28 @@ def changed_by_others(cases: Cases, folder: str) -> None:
         desk.lost()
         curl(server.url + "/features/4", "-X", "PUT", body=point("theirs"))
         desk.rename("mine", "mine again")
-        cases.show("checkins: an id that others have by now", (desk.checkin()[0], desk.names()), (0, {4: "theirs", 5: "mine again"}))
+        cases.show(
+            "checkins: an id that others have by now",
+            (desk.checkin()[0], desk.names()),
+            (0, {4: "theirs", 5: "mine again"}),
+        )
 
 
 def earlier_file(cases: Cases, folder: str) -> None:
-    """A file that an earlier program checked out, with the id of a feature that was made: it has no table of what was sent."""
+    """A file that an earlier program checked out, with the id of a feature that was made: it has no table of what
+    was sent."""
     with Server(folder, "earlier_file") as server:
         desk = Desk(folder, "earlier_file", server)
         desk.add("mine")
         curl(server.url + "/features/4", "-X", "PUT", body=point("mine"))
-        desk.sql(("INSERT INTO gpkg_vtserve_features VALUES ('place', 4, 4, '{}', NULL)",), ("DROP TABLE IF EXISTS gpkg_vtserve_sent",))
+        desk.sql(
+            ("INSERT INTO gpkg_vtserve_features VALUES ('place', 4, 4, '{}', NULL)",),
+            ("DROP TABLE IF EXISTS gpkg_vtserve_sent",),
+        )
         desk.add("more")
-        cases.show("checkins: a file of an earlier program", (desk.checkin()[0], desk.names()), (0, {4: "mine", 5: "more"}))
+        cases.show(
+            "checkins: a file of an earlier program", (desk.checkin()[0], desk.names()), (0, {4: "mine", 5: "more"})
+        )
 
 
 def islands(server):
@@ -215,7 +269,11 @@ def large(cases: Cases, folder: str) -> None:
                     desk.rename("island", "island again", "area")
                 again = desk.checkin()[0]
                 wanted = [("island again" if edited else "island", normal(square(side))), old]
-                cases.show(f"checkins: a large new feature of {name}{edited}", (code, pieces > 1, again, islands(server) == wanted), (3, True, 0, True))
+                cases.show(
+                    f"checkins: a large new feature of {name}{edited}",
+                    (code, pieces > 1, again, islands(server) == wanted),
+                    (3, True, 0, True),
+                )
                 cases.show("checkins: and the file has nothing more to send", desk.checkin()[1:], (QUIET, [QUIET]))
 
 
@@ -228,8 +286,12 @@ def leftovers(cases: Cases, folder: str) -> None:
         desk.add_area("island", 300000)
         code = desk.checkin()[0]
         wanted = [("island", normal(square(300000))), ("old area", normal(square(1000)))]
-        cases.show("checkins: a large new feature beside a piece that is left of another", (code, islands(server) == wanted), (0, True))
-        cases.show("checkins: which stays", listed(server)[5 + 2 ** 40], json.loads(piece))
+        cases.show(
+            "checkins: a large new feature beside a piece that is left of another",
+            (code, islands(server) == wanted),
+            (0, True),
+        )
+        cases.show("checkins: which stays", listed(server)[5 + 2**40], json.loads(piece))
 
 
 def checkins(cases: Cases, folder: str) -> None:

@@ -7,8 +7,15 @@ import subprocess
 from .stand import BYTES, JSON, Cases, Server, archive, curl, feature, field, refusal, same, status_of, wanted
 
 # What changes the map or publishes it, and is refused under a condition that names a tag.
-CHANGES = [("/features/7", "PUT"), ("/features/7", "DELETE"), ("/edits", "POST"), ("/publish", "POST"), ("/publish/begin", "POST"),
-           ("/publish/cancel", "POST"), ("/admin/edits", "POST")]
+CHANGES = [
+    ("/features/7", "PUT"),
+    ("/features/7", "DELETE"),
+    ("/edits", "POST"),
+    ("/publish", "POST"),
+    ("/publish/begin", "POST"),
+    ("/publish/cancel", "POST"),
+    ("/admin/edits", "POST"),
+]
 
 
 def tags(cases: Cases, folder: str) -> None:
@@ -25,7 +32,11 @@ def tags(cases: Cases, folder: str) -> None:
         tag = field(tile, "etag")
         cases.show("a tile has a weak tag", re.fullmatch(r'W/"[1-9][0-9]*-1"', tag) is not None, True)
         for value, status in ((tag, 304), (tag[2:], 304), (f'"a", {tag}', 304), ('W/"1-1"', 200)):
-            cases.show(f"a tile under if-none-match: {value}", status_of(curl(url + "/map/0/0/0.mvt", "-H", f"If-None-Match: {value}")), status)
+            cases.show(
+                f"a tile under if-none-match: {value}",
+                status_of(curl(url + "/map/0/0/0.mvt", "-H", f"If-None-Match: {value}")),
+                status,
+            )
         whole = archive()
         curl(url + "/publish", "-X", "POST")
         tag = [("etag", f'"1-1-{len(whole)}"')]
@@ -36,16 +47,30 @@ def tags(cases: Cases, folder: str) -> None:
         archive_under_conditions(cases, url, whole, tag)
         curl(url + "/publish", "-X", "POST")
         before, tag = tag[0][1], [("etag", f'"2-1-{len(whole)}"')]
-        same(cases, "another archive has another tag", curl(url + "/map.pmtiles", "-H", f"If-None-Match: {before}"), wanted(200, BYTES, whole, more=tag))
+        same(
+            cases,
+            "another archive has another tag",
+            curl(url + "/map.pmtiles", "-H", f"If-None-Match: {before}"),
+            wanted(200, BYTES, whole, more=tag),
+        )
         mirror(cases, "", folder, url)
         for condition in ('If-Match: "x"', 'If-None-Match: "a"'):
             for path, method in CHANGES:
                 reply = curl(url + path, "-X", method, "-H", condition, body=feature())
                 same(cases, f"{method} {path} under {condition}", reply, refusal(412, "Condition"))
-        same(cases, "a DELETE under if-match: *", curl(url + "/features/7", "-X", "DELETE", "-H", "If-Match: *"), wanted(200, JSON, '{"edit":2}'))
-        curl(url + "/features/8", "-X", "PUT", body=feature("deep", 10, 12, {"points": [[2 ** 31, 2 ** 31]]}))
+        same(
+            cases,
+            "a DELETE under if-match: *",
+            curl(url + "/features/7", "-X", "DELETE", "-H", "If-Match: *"),
+            wanted(200, JSON, '{"edit":2}'),
+        )
+        curl(url + "/features/8", "-X", "PUT", body=feature("deep", 10, 12, {"points": [[2**31, 2**31]]}))
         tag = field(curl(url + "/map/0/0/0.mvt", "--head"), "etag")
-        cases.show("an edit counts for the tiles above those that show it", re.fullmatch(r'W/"[1-9][0-9]*-3"', tag) is not None or tag, True)
+        cases.show(
+            "an edit counts for the tiles above those that show it",
+            re.fullmatch(r'W/"[1-9][0-9]*-3"', tag) is not None or tag,
+            True,
+        )
 
 
 def archive_under_conditions(cases, url, whole, tag):
@@ -89,14 +114,21 @@ if test -e new.pmtiles; then mv new.pmtiles map.pmtiles && mv new.etag map.etag;
 
 
 def mirror(cases, name, folder, url):
-    """The archive, fetched each night by its entity tag as docs/DEPLOYING.md has it: twice, and twice behind another publication."""
+    """The archive, fetched each night by its entity tag as docs/DEPLOYING.md has it: twice, and twice behind another
+    publication."""
     place, found = os.path.join(folder, "mirror"), []
     os.mkdir(place)
     for night in range(4):
         if night == 2:
             curl(url + "/publish", "-X", "POST")
-        told = subprocess.run(["sh", "-c", MIRROR, url + "/map.pmtiles"], cwd=place, capture_output=True, text=True, timeout=100).stdout
+        told = subprocess.run(
+            ["sh", "-c", MIRROR, url + "/map.pmtiles"], cwd=place, capture_output=True, text=True, timeout=100
+        ).stdout
         with open(os.path.join(place, "map.pmtiles"), "rb") as file:
             found.append((told, file.read() == archive()))
-    cases.show(name + "curl fetches the archive by its tag only if it is another one", found, [("200 223", True), ("304 0", True)] * 2)
+    cases.show(
+        name + "curl fetches the archive by its tag only if it is another one",
+        found,
+        [("200 223", True), ("304 0", True)] * 2,
+    )
     shutil.rmtree(place)

@@ -1,5 +1,5 @@
-"""The part `desktop` of run.py: QGIS, by its Python module and without a window, edits what `vtmap checkout` wrote, and the difference is
-sent back. Somebody else edits the map meanwhile."""
+"""The part `desktop` of run.py: QGIS, by its Python module and without a window, edits what `vtmap checkout` wrote,
+and the difference is sent back. Somebody else edits the map meanwhile."""
 import json
 import os
 import sqlite3
@@ -139,12 +139,22 @@ class Desk:
 
     def checkout(self):
         edit = self.edits()
-        self.show("the map is checked out", gis("checkout", self.file, "--url", self.url), (0, [f"{self.file}: 339 features in 5 tables, of edit {edit}"]))
-        found = [line.split()[:-2] for line in run(self.folder, LOOK, self.file, "building", "land", "park", "place", "road")]
+        self.show(
+            "the map is checked out",
+            gis("checkout", self.file, "--url", self.url),
+            (0, [f"{self.file}: 339 features in 5 tables, of edit {edit}"]),
+        )
+        found = [
+            line.split()[:-2] for line in run(self.folder, LOOK, self.file, "building", "land", "park", "place", "road")
+        ]
         areas = [[name, count, "MultiPolygon"] for name, count in [("building", "318"), ("land", "1"), ("park", "3")]]
         wanted = [[*row, "EPSG:3857"] for row in [*areas, ["place", "5", "Point"], ["road", "12", "MultiLineString"]]]
         self.show("QGIS opens each layer, the cut land as one", found, wanted)
-        self.show("what nobody edited sends nothing", gis("checkin", self.file), (0, ["0 new, 0 changed, 0 deleted, 0 conflicts, 0 refused"]))
+        self.show(
+            "what nobody edited sends nothing",
+            gis("checkin", self.file),
+            (0, ["0 new, 0 changed, 0 deleted, 0 conflicts, 0 refused"]),
+        )
         self.show("and makes no edit", self.edits(), edit)
         told = f"{self.file} exists: check it in, and give --force to write it anew"
         self.show("a file isn't written over", gis("checkout", self.file, "--url", self.url), (1, [told]))
@@ -156,35 +166,78 @@ class Desk:
         self.show("QGIS edits", run(self.folder, EDIT, self.file), ["edited"])
         church = self.get(452)
         church["geometry"]["points"][0][0] += 1000
-        curl(f"{self.url}/features/452", "-X", "PUT", body=json.dumps({**church, "maxzoom": 15, "tags": {"name": "St Mary", "spire": True}}))
+        curl(
+            f"{self.url}/features/452",
+            "-X",
+            "PUT",
+            body=json.dumps({**church, "maxzoom": 15, "tags": {"name": "St Mary", "spire": True}}),
+        )
         self.put(450, name="by others")
         before, land = self.get(134), self.get(101)
         status, lines = gis("checkin", self.file, "--dry-run")
-        self.show("a trial sends nothing", (status, lines[-1]), (1, "0 new, 0 changed, 0 deleted, 1 conflicts, 1 refused; 9 would be sent"))
+        self.show(
+            "a trial sends nothing",
+            (status, lines[-1]),
+            (1, "0 new, 0 changed, 0 deleted, 1 conflicts, 1 refused; 9 would be sent"),
+        )
         status, lines = gis("checkin", self.file)
-        self.show("what was changed is sent", (status, lines[-1]), (1, "3 new, 5 changed, 1 deleted, 1 conflicts, 1 refused"))
-        conflict = "conflict: place 452: yours: name: 'Church' -> 'Old Church'; on the map now: (maxzoom): 16 -> 15, " \
+        self.show(
+            "what was changed is sent", (status, lines[-1]), (1, "3 new, 5 changed, 1 deleted, 1 conflicts, 1 refused")
+        )
+        conflict = (
+            "conflict: place 452: yours: name: 'Church' -> 'Old Church'; on the map now: (maxzoom): 16 -> 15, "
             "name: 'Church' -> 'St Mary', spire: None -> True, its shape"
-        self.show("a conflict is reported with both changes", [line for line in lines if line.startswith("conflict")], [conflict])
-        self.show("and so is what can't be read", [line for line in lines if line.startswith("refused")], ["refused: well, row 2: it has no geometry"])
+        )
+        self.show(
+            "a conflict is reported with both changes",
+            [line for line in lines if line.startswith("conflict")],
+            [conflict],
+        )
+        self.show(
+            "and so is what can't be read",
+            [line for line in lines if line.startswith("refused")],
+            ["refused: well, row 2: it has no geometry"],
+        )
         others = [line.split(":")[1].strip() for line in lines if line.startswith("changed by others")]
         self.show("what others changed elsewhere is listed", others, ["building 450"])
         self.show("a tag", self.get(133)["tags"], {"floors": 9, "house": 1})
-        moved = [b - a for a, b in zip(before["geometry"]["polygons"][0][0][0], self.get(134)["geometry"]["polygons"][0][0][0])]
-        self.show("a shape, moved by 10 and -5 metres", moved, [round(10 / 40075016.685578488 * 2 ** 32), round(-5 / 40075016.685578488 * 2 ** 32)])
+        moved = [
+            b - a
+            for a, b in zip(before["geometry"]["polygons"][0][0][0], self.get(134)["geometry"]["polygons"][0][0][0])
+        ]
+        self.show(
+            "a shape, moved by 10 and -5 metres",
+            moved,
+            [round(10 / 40075016.685578488 * 2**32), round(-5 / 40075016.685578488 * 2**32)],
+        )
         self.show("a deletion", self.get(135), None)
         self.show("what somebody else made stays", self.get(452)["tags"], {"name": "St Mary", "spire": True})
         self.show("a new column is a new tag", self.get(453)["tags"], {"height": "12.5", "name": "School"})
         made = [self.get(number) for number in range(456, 460)]
-        names = [feature and (feature["layer"], feature["tags"].get("name"), feature["tags"].get("house")) for feature in made]
-        self.show("new features have ids that were free", names, [("building", None, 999), ("road", "Long Bridge", None), ("well", "Well", None), None])
-        self.show("a new layer has the zooms of the others", [made[2][zoom] for zoom in ("minzoom", "maxzoom")], [10, 16])
+        names = [
+            feature and (feature["layer"], feature["tags"].get("name"), feature["tags"].get("house"))
+            for feature in made
+        ]
+        self.show(
+            "new features have ids that were free",
+            names,
+            [("building", None, 999), ("road", "Long Bridge", None), ("well", "Well", None), None],
+        )
+        self.show(
+            "a new layer has the zooms of the others", [made[2][zoom] for zoom in ("minzoom", "maxzoom")], [10, 16]
+        )
         self.show("and its values their types", made[2]["tags"], {"depth": 3, "name": "Well", "open": True})
         self.show("a long line is cut", made[1]["tags"].get("whole"), 457)
-        self.show("the moved land is cut again", (self.get(101)["geometry"] != land["geometry"], self.get(101)["tags"]["whole"]), (True, 101))
+        self.show(
+            "the moved land is cut again",
+            (self.get(101)["geometry"] != land["geometry"], self.get(101)["tags"]["whole"]),
+            (True, 101),
+        )
         whole = os.path.join(self.folder, "again.gpkg")
         gis("checkout", whole, "--url", self.url, "--layer", "land")
-        self.show("and is one feature", run(self.folder, LOOK, whole, "land")[0].split()[:3], ["land", "1", "MultiPolygon"])
+        self.show(
+            "and is one feature", run(self.folder, LOOK, whole, "land")[0].split()[:3], ["land", "1", "MultiPolygon"]
+        )
         edit = self.edits()
         status, lines = gis("checkin", self.file)
         wanted = (1, "0 new, 0 changed, 0 deleted, 1 conflicts, 1 refused", edit)
@@ -192,15 +245,21 @@ class Desk:
         gis("checkin", self.file, "--mine", "452")
         wanted = {**church, "maxzoom": 15, "tags": {"name": "Old Church", "spire": True}}
         self.show("the author's word puts what he changed over the other's, and keeps the rest", self.get(452), wanted)
-        self.show("after which the file has nothing to send", gis("checkin", self.file)[1][-1], "0 new, 0 changed, 0 deleted, 0 conflicts, 1 refused")
+        self.show(
+            "after which the file has nothing to send",
+            gis("checkin", self.file)[1][-1],
+            "0 new, 0 changed, 0 deleted, 0 conflicts, 1 refused",
+        )
 
     def interrupted(self):
         """A checkin of 600 new features that is killed several times."""
         many = os.path.join(self.folder, "many.gpkg")
         gis("checkout", many, "--url", self.url, "--layer", "place")
         with sqlite3.connect(many) as file:
-            file.executemany("INSERT INTO place (geom, name, minzoom, maxzoom) SELECT geom, ?, 10, 16 FROM place WHERE fid = 451",
-                             [(f"made {number}",) for number in range(600)])
+            file.executemany(
+                "INSERT INTO place (geom, name, minzoom, maxzoom) SELECT geom, ?, 10, 16 FROM place WHERE fid = 451",
+                [(f"made {number}",) for number in range(600)],
+            )
         kills = 0
         for seconds in (0.3, 0.5, 0.7, 0.9, 1.1, 1.3):
             child = subprocess.Popen([*VTMAP, "checkin", many], stdout=subprocess.DEVNULL)
@@ -219,13 +278,21 @@ class Desk:
             named.append(row["feature"]["tags"].get("name", ""))
         made = sorted(name for name in named if str(name).startswith("made "))
         self.show("and made each new feature once", made, sorted(f"made {number}" for number in range(600)))
-        self.show("as the file has it", gis("checkin", many)[1][-1], "0 new, 0 changed, 0 deleted, 0 conflicts, 0 refused")
+        self.show(
+            "as the file has it", gis("checkin", many)[1][-1], "0 new, 0 changed, 0 deleted, 0 conflicts, 0 refused"
+        )
 
     def mistakes(self):
         """A file that lost its features, one that is none, no server."""
         emptied = os.path.join(self.folder, "emptied.gpkg")
         gis("checkout", emptied, "--url", self.url, "--layer", "building")
-        run(self.folder, QGIS + "made = layer('building')\nwith edit(made):\n    made.deleteFeatures(made.allFeatureIds())\nprint('emptied')", emptied)
+        run(
+            self.folder,
+            QGIS
+            + "made = layer('building')\nwith edit(made):\n   "
+            " made.deleteFeatures(made.allFeatureIds())\nprint('emptied')",
+            emptied,
+        )
         edit = self.edits()
         told = "318 of 318 features are gone from the file: give --delete-many if they are to be deleted"
         self.show("a layer that is gone isn't deleted without a word", gis("checkin", emptied), (1, [told]))
@@ -235,6 +302,10 @@ class Desk:
             other.execute("BEGIN EXCLUSIVE")
             status, lines = gis("checkin", self.file)
             other.execute("ROLLBACK")
-        self.show("a file that another program writes just now", (status, lines[0].partition(" (")[0]), (1, f"{self.file} can't be written"))
+        self.show(
+            "a file that another program writes just now",
+            (status, lines[0].partition(" (")[0]),
+            (1, f"{self.file} can't be written"),
+        )
         status, lines = gis("checkin", self.file, "--url", "http://127.0.0.1:1")
         self.show("no server", (status, lines[0].partition(": ")[0]), (3, "no reply of http://127.0.0.1:1"))

@@ -45,8 +45,8 @@ class Kept:
 
 
 def fetched(port, paths):
-    """The contents of paths that six kept connections fetch, each its share and 20 ms after one the next, as a browser that draws them; in how
-    many seconds, how many connections were opened, and how many replies were cut."""
+    """The contents of paths that six kept connections fetch, each its share and 20 ms after one the next, as a
+    browser that draws them; in how many seconds, how many connections were opened, and how many replies were cut."""
     found = {}
     kept = [Kept(port) for _ in range(KEPT)]
 
@@ -68,16 +68,25 @@ def direct(cases: Cases, folder: str) -> None:
     with Server(folder, "direct") as server:
         corners = [[0, 0], [WORLD, 0], [WORLD, WORLD], [0, WORLD]]
         text = feature(last=3, geometry={"polygons": [[corners]]})
-        cases.show("direct: a feature on every tile", status_of(curl(f"{server.url}/features/1", "-X", "PUT", body=text)), 200)
+        cases.show(
+            "direct: a feature on every tile", status_of(curl(f"{server.url}/features/1", "-X", "PUT", body=text)), 200
+        )
         alone = Kept(server.port)
         expected = {path: alone.get(path) for path in TILES}
         found, seconds, opened, cut = fetched(server.port, TILES)
-        cases.show("direct: six kept connections get the same tiles", found == expected and len(found) == len(TILES), True)
+        cases.show(
+            "direct: six kept connections get the same tiles", found == expected and len(found) == len(TILES), True
+        )
         cases.show("direct: no reply is cut, and none of the connections ends", (cut, opened), (0, KEPT))
-        cases.show("direct: 40 tiles in less than a second, beside a kept connection", seconds < 1 or f"{seconds:.2f} s", True)
+        cases.show(
+            "direct: 40 tiles in less than a second, beside a kept connection", seconds < 1 or f"{seconds:.2f} s", True
+        )
         cases.say(f"direct: {seconds:.2f} s, of which each client drew for {DRAWING * -(-len(TILES) // KEPT):.2f} s")
         opened = []
-        edits = [threading.Thread(target=put_all, args=(server.port, first, opened)) for first in range(100, 100 + 10 * KEPT, 10)]
+        edits = [
+            threading.Thread(target=put_all, args=(server.port, first, opened))
+            for first in range(100, 100 + 10 * KEPT, 10)
+        ]
         began = time.monotonic()
         for thread in edits:
             thread.start()
@@ -85,14 +94,20 @@ def direct(cases: Cases, folder: str) -> None:
             thread.join()
         seconds = time.monotonic() - began
         there = sum(status_of(curl(f"{server.url}/features/{number}")) == 200 for number in range(100, 100 + 10 * KEPT))
-        cases.show("direct: sixty edits by six kept connections", (there, seconds < 2 or f"{seconds:.2f} s"), (10 * KEPT, True))
+        cases.show(
+            "direct: sixty edits by six kept connections", (there, seconds < 2 or f"{seconds:.2f} s"), (10 * KEPT, True)
+        )
         cases.show("direct: no edit was sent twice", len(opened), KEPT)
         with socket.create_connection(("127.0.0.1", server.port)) as silent:
             time.sleep(0.2)
             began = time.monotonic()
             reply = curl(f"{server.url}/features/1")
             waited = time.monotonic() - began
-            cases.show("direct: a connection without a request delays no other", (status_of(reply), waited < 0.3 or f"{waited:.2f} s"), (200, True))
+            cases.show(
+                "direct: a connection without a request delays no other",
+                (status_of(reply), waited < 0.3 or f"{waited:.2f} s"),
+                (200, True),
+            )
             silent.close()
         with socket.create_connection(("127.0.0.1", server.port), timeout=10) as last:
             last.sendall(b"GET /map/metadata HTTP/1.1\r\nhost: a\r\nconnection: close\r\n\r\n")
@@ -102,29 +117,46 @@ def direct(cases: Cases, folder: str) -> None:
             seen = content == expected[TILES[0]], waited < 0.3 or waited
             cases.show("direct: one that has asked for its end and stays open holds up no other", seen, (True, True))
             whole = b"".join(iter(lambda: last.recv(65536), b""))
-            cases.show("direct: and has its whole reply", whole.startswith(b"HTTP/1.1 200 ") and whole.endswith(b"]}"), True)
+            cases.show(
+                "direct: and has its whole reply", whole.startswith(b"HTTP/1.1 200 ") and whole.endswith(b"]}"), True
+            )
         idle_ones(cases, server, alone)
         too_many(cases, server, alone)
     broken_and_busy(cases, folder)
 
 
 def broken_and_busy(cases: Cases, folder: str) -> None:
-    """A disk whose syncs fail, by strace, while a kept connection asks without a pause: the process ends all the same."""
+    """A disk whose syncs fail, by strace, while a kept connection asks without a pause: the process ends all the
+    same."""
     if not shutil.which("strace"):
         cases.say("direct: no strace: no sync fails")
         return
-    failing = ["strace", "-o", os.path.join(folder, "calls"), "-e", "trace=fdatasync", "-e", "inject=fdatasync:error=EIO:when=6+"]
+    failing = [
+        "strace",
+        "-o",
+        os.path.join(folder, "calls"),
+        "-e",
+        "trace=fdatasync",
+        "-e",
+        "inject=fdatasync:error=EIO:when=6+",
+    ]
     with Server(folder, "busy", more=["--stop-when-broken"], under=failing) as server:
         busy = threading.Thread(target=ask_until_ended, args=(server.port,))
         busy.start()
-        replies = [status_of(curl(f"{server.url}/features/{number}", "-X", "PUT", body=feature())) for number in range(1, 5)]
+        replies = [
+            status_of(curl(f"{server.url}/features/{number}", "-X", "PUT", body=feature())) for number in range(1, 5)
+        ]
         began = time.monotonic()
         status = server.child.wait(60)
         seconds = time.monotonic() - began
         busy.join(60)
         told = sum(line.startswith("vtserve: Device: sync: ") for line in server.lines())
         cases.show("direct: a sync that fails is told once", (replies, told), ([200, 200, 200, 500], 1))
-        cases.show("direct: and ends the process with 1, beside a busy connection", (status, seconds < 5 or seconds, busy.is_alive()), (1, True, False))
+        cases.show(
+            "direct: and ends the process with 1, beside a busy connection",
+            (status, seconds < 5 or seconds, busy.is_alive()),
+            (1, True, False),
+        )
 
 
 def ask_until_ended(port):
@@ -139,7 +171,8 @@ def ask_until_ended(port):
 
 
 def requests_a_second(server):
-    """How many requests of one tile wrk makes in a second over one connection, or a client in Python where there is no wrk."""
+    """How many requests of one tile wrk makes in a second over one connection, or a client in Python where there is
+    no wrk."""
     if shutil.which("wrk"):
         words = ["wrk", "-t", "1", "-c", "1", "-d", "2s", server.url + TILES[0]]
         told = subprocess.run(words, capture_output=True, text=True).stdout
@@ -152,7 +185,8 @@ def requests_a_second(server):
 
 
 def idle_ones(cases, server, alone):
-    """One connection that works, alone and beside 64 that are kept and send nothing: up to three times, since other work on the machine slows either."""
+    """One connection that works, alone and beside 64 that are kept and send nothing: up to three times, since other
+    work on the machine slows either."""
     found = set()
     for _ in range(3):
         before = requests_a_second(server)
@@ -167,7 +201,11 @@ def idle_ones(cases, server, alone):
         if beside > before * 0.75:
             break
     cases.show(f"direct: {IDLE} idle connections are answered again, and none ended", found, {(True, IDLE + 1)})
-    cases.show("direct: they don't hold up the one that works", beside > before * 0.75 or f"{beside:.0f} of {before:.0f} a second", True)
+    cases.show(
+        "direct: they don't hold up the one that works",
+        beside > before * 0.75 or f"{beside:.0f} of {before:.0f} a second",
+        True,
+    )
     cases.say(f"direct: {before:.0f} requests a second alone, {beside:.0f} beside {IDLE} idle connections")
 
 
@@ -176,7 +214,11 @@ def too_many(cases, server, alone):
     silent = [socket.create_connection(("127.0.0.1", server.port), timeout=10) for _ in range(300)]
     opened = alone.opened
     content = alone.get(TILES[0])
-    cases.show("direct: one that works is answered beside 300 silent ones", (len(content) > 0, alone.opened - opened <= 1), (True, True))
+    cases.show(
+        "direct: one that works is answered beside 300 silent ones",
+        (len(content) > 0, alone.opened - opened <= 1),
+        (True, True),
+    )
     for one in silent:
         one.settimeout(0.02)
     ended = [heard(one) for one in silent]

@@ -22,20 +22,30 @@ def slow(front, address, more=""):
 def in_files(front):
     """The bytes that nginx keeps of replies in files of its folder `proxy`, which have no names any more."""
     time.sleep(1)
-    workers = subprocess.run(["pgrep", "-P", str(front.child.pid)], capture_output=True, text=True, check=True).stdout.split()
+    workers = subprocess.run(
+        ["pgrep", "-P", str(front.child.pid)], capture_output=True, text=True, check=True
+    ).stdout.split()
     opened = [f"/proc/{worker}/fd/{number}" for worker in workers for number in os.listdir(f"/proc/{worker}/fd")]
-    return sum(os.stat(path).st_size for path in opened if os.readlink(path).startswith(os.path.join(front.folder, "proxy")))
+    return sum(
+        os.stat(path).st_size for path in opened if os.readlink(path).startswith(os.path.join(front.folder, "proxy"))
+    )
 
 
 def downloads(cases, folder, nginx):
-    """Downloads of the archive at once: three from an address and eight together, while readers of its parts are served as ever."""
+    """Downloads of the archive at once: three from an address and eight together, while readers of its parts are
+    served as ever."""
     folder = os.path.join(folder, "downloads")
     os.mkdir(folder)
     with Server(folder, "long", 131072) as server, Nginx(nginx, folder, server) as front:
         # Four tiles of 3 MB: more than the system keeps of a connection.
         for number in range(100):
             tags = {f"k{at}": f"{number} {at} " + "x" * 1000 for at in range(30)}
-            curl(f"{server.url}/features/{number}", "-X", "PUT", body=feature(last=3, geometry={"points": [[number * 1000000, 0]]}, tags=tags))
+            curl(
+                f"{server.url}/features/{number}",
+                "-X",
+                "PUT",
+                body=feature(last=3, geometry={"points": [[number * 1000000, 0]]}, tags=tags),
+            )
         curl(server.url + "/publish", "-X", "POST")
         archive = front.url + "/map.pmtiles"
         length = len(curl(archive)[2])
@@ -46,14 +56,24 @@ def downloads(cases, folder, nginx):
 
         peers = [slow(front, "127.0.0.1") for _ in range(3)]
         cases.show("downloads: three from an address", [told for _, told in peers], ["HTTP/1.1 200"] * 3)
-        cases.show("downloads: a fourth one, and one from another address", [status("127.0.0.1"), status("127.0.0.2")], [429, 200])
+        cases.show(
+            "downloads: a fourth one, and one from another address",
+            [status("127.0.0.1"), status("127.0.0.2")],
+            [429, 200],
+        )
         kept = in_files(front)
         parts = [slow(front, "127.0.0.1", f"range: bytes=0-{length}\r\n") for _ in range(6)]
-        cases.show("downloads: six parts at once from it, however long", [told for _, told in parts], ["HTTP/1.1 206"] * 6)
+        cases.show(
+            "downloads: six parts at once from it, however long", [told for _, told in parts], ["HTTP/1.1 206"] * 6
+        )
         cases.show("downloads: of which nginx keeps nothing in a file", (kept > 0, in_files(front) - kept), (True, 0))
         reader = [sys.executable, os.path.join(HERE, "read_range.py"), archive, "0/0/0"]
         tile = subprocess.run(reader, capture_output=True, text=True).stdout.strip()
-        cases.show("downloads: a reader of PMTiles gets its tile", tile == curl(server.url + "/map/0/0/0.hex")[2].decode(), True)
+        cases.show(
+            "downloads: a reader of PMTiles gets its tile",
+            tile == curl(server.url + "/map/0/0/0.hex")[2].decode(),
+            True,
+        )
         peers += [slow(front, address) for address in ["127.0.0.2"] * 3 + ["127.0.0.3"] * 2]
         cases.show("downloads: eight together", [told for _, told in peers], ["HTTP/1.1 200"] * 8)
         cases.show("downloads: a ninth one, from a further address", status("127.0.0.4"), 429)

@@ -1,9 +1,11 @@
-"""The part `editors` of run.py: clients that edit the same features at once, by checked edits, and a check of what came of it.
+"""The part `editors` of run.py: clients that edit the same features at once, by checked edits, and a check of what came
+of it.
 
-Two clients make 1,000 random edits each of the same 50 features, of one to three features an edit, and see them as they were when they read
-them last. A third makes 300, and sends each of its requests twice. Each notes what it sent, what it had seen, and the number of the edit in
-the reply. From these notes alone `checked` finds out whether the numbers are one order of all edits in which none replaced a version that
-its author hadn't seen, whether each was made once, and what the map has to be in the end.
+Two clients make 1,000 random edits each of the same 50 features, of one to three features an edit, and see them as
+they were when they read them last. A third makes 300, and sends each of its requests twice. Each notes what it sent,
+what it had seen, and the number of the edit in the reply. From these notes alone `checked` finds out whether the
+numbers are one order of all edits in which none replaced a version that its author hadn't seen, whether each was
+made once, and what the map has to be in the end.
 """
 import http.client
 import json
@@ -67,7 +69,8 @@ class Editor(threading.Thread):
                 changes.append({"put": number, "feature": after[number], "was": was})
         # What this edit says that was seen: a look after a refusal is no part of it, though the edit is sent again.
         said = {number: self.seen[number] for number in numbers}
-        # Versions are made once, so an edit that saw one can't be made twice. Of nothing seen it could: if others delete what it made.
+        # Versions are made once, so an edit that saw one can't be made twice. Of nothing seen it could: if others
+        # delete what it made.
         if self.times > 1 and not any(said.values()):
             return False
         body, is_made = json.dumps({"changes": changes}), False
@@ -85,12 +88,17 @@ class Editor(threading.Thread):
 
 
 def checked(notes, last):
-    """What is wrong with edits that were made: the number of each, what its author had seen, and what it made of it; and the map of them."""
+    """What is wrong with edits that were made: the number of each, what its author had seen, and what it made of it;
+    and the map of them."""
     now, faults = {}, []
     for at, (edit, was, after) in enumerate(sorted(notes, key=lambda note: note[0]), 1):
         if edit != at:
             faults.append(f"edit {edit} is the {at}th that was acknowledged")
-        faults += [f"edit {edit} replaced a version of {number} that its author hadn't seen" for number, seen in was.items() if now.get(number) != seen]
+        faults += [
+            f"edit {edit} replaced a version of {number} that its author hadn't seen"
+            for number, seen in was.items()
+            if now.get(number) != seen
+        ]
         now.update(after)
     if len(notes) != last:
         faults.append(f"{last} edits of the map, {len(notes)} were acknowledged")
@@ -100,7 +108,11 @@ def checked(notes, last):
 def editors(cases: Cases, folder: str) -> None:
     """Three clients at once, and a check of their notes, which has to find faults in notes that have some."""
     with Server(folder, "edited", 65536) as server:
-        three = [Editor(server.port, "one", EDITS), Editor(server.port, "two", EDITS), Editor(server.port, "twice", TWICE, 2)]
+        three = [
+            Editor(server.port, "one", EDITS),
+            Editor(server.port, "two", EDITS),
+            Editor(server.port, "twice", TWICE, 2),
+        ]
         for editor in three:
             editor.start()
         for editor in three:
@@ -111,8 +123,14 @@ def editors(cases: Cases, folder: str) -> None:
         last = json.loads(reader.ask("GET", "/admin/status")[1])["edits"]
     notes = [note for editor in three for note in editor.made]
     faults, wanted = checked(notes, last)
-    cases.show("editors: no edit replaced a version that its author hadn't seen, and each was made once", faults[:3], [])
-    cases.show("editors: the map is that of these edits in their order", {number: feature for number, feature in reader.seen.items() if feature}, wanted)
+    cases.show(
+        "editors: no edit replaced a version that its author hadn't seen, and each was made once", faults[:3], []
+    )
+    cases.show(
+        "editors: the map is that of these edits in their order",
+        {number: feature for number, feature in reader.seen.items() if feature},
+        wanted,
+    )
     cases.show("editors: each made its edits", [len(editor.made) for editor in three], [EDITS, EDITS, TWICE])
     conflicts = [editor.replies[409] for editor in three]
     cases.show("editors: each got in the way of the others", all(count > 10 for count in conflicts), True)
@@ -120,9 +138,16 @@ def editors(cases: Cases, folder: str) -> None:
     cases.say(f"{len(notes)} edits, {sum(conflicts)} conflicts")
     edit, was, after = notes[len(notes) // 2]
     number = next(iter(was))
-    unseen = [*notes[:len(notes) // 2], (edit, {**was, number: version("nobody", 0, number)}, after), *notes[len(notes) // 2 + 1:]]
+    unseen = [
+        *notes[: len(notes) // 2],
+        (edit, {**was, number: version("nobody", 0, number)}, after),
+        *notes[len(notes) // 2 + 1 :],
+    ]
     # One that can't be made again at the end: the map has another version then.
     late = next(note for note in notes if any(wanted.get(number) != seen for number, seen in note[1].items()))
     again = [*notes, (last + 1, *late[1:])]
-    cases.show("editors: the check finds an edit of an unseen version, one twice and one that is missing",
-               [bool(checked(wrong, count)[0]) for wrong, count in ((unseen, last), (again, last + 1), (notes[1:], last))], [True] * 3)
+    cases.show(
+        "editors: the check finds an edit of an unseen version, one twice and one that is missing",
+        [bool(checked(wrong, count)[0]) for wrong, count in ((unseen, last), (again, last + 1), (notes[1:], last))],
+        [True] * 3,
+    )

@@ -1,4 +1,5 @@
-"""The part `encodings` of run.py: texts of Shapefiles and of tables of Excel in the encodings that offices have, none of which loses a letter.
+"""The part `encodings` of run.py: texts of Shapefiles and of tables of Excel in the encodings that offices have, none
+of which loses a letter.
 
 The files are made by ogr2ogr and by hand; wanted texts are those that were written.
 """
@@ -11,7 +12,8 @@ from .updates import listed
 
 TEXTS = ["Café", "Fluß", "Straße Süd", "plain", "Grün"]
 GUESSED = "aren't UTF-8 and are read as cp1252"
-# A Shapefile's encoding for ogr2ogr, what of it the file says (its .cpg, the mark in its .dbf, or nothing), and whether it has to be guessed.
+# A Shapefile's encoding for ogr2ogr, what of it the file says (its .cpg, the mark in its .dbf, or nothing), and whether
+# it has to be guessed.
 SHAPEFILES = [
     ("UTF-8", "cpg", None, False),
     ("UTF-8", "nothing", None, False),
@@ -42,8 +44,10 @@ def shapefile(folder, name, texts, encoding, says, mark=None, width=80):
     """A Shapefile with these names."""
     source = written(folder, name + ".geojson", [row("Point", [10, 50], name=text) for text in texts])
     made = os.path.join(folder, name + ".shp")
-    words = ["-lco", f"ENCODING={encoding}", "-sql", f"SELECT CAST(name AS character({width})) AS name FROM \"{name}\""]
-    subprocess.run(["ogr2ogr", "-f", "ESRI Shapefile", *words, made, source, "-nln", name], check=True, capture_output=True)
+    words = ["-lco", f"ENCODING={encoding}", "-sql", f'SELECT CAST(name AS character({width})) AS name FROM "{name}"']
+    subprocess.run(
+        ["ogr2ogr", "-f", "ESRI Shapefile", *words, made, source, "-nln", name], check=True, capture_output=True
+    )
     if says != "cpg" and os.path.exists(made[:-4] + ".cpg"):
         os.remove(made[:-4] + ".cpg")
     with open(made[:-4] + ".dbf", "r+b") as file:
@@ -77,15 +81,34 @@ def cut_texts(cases, folder, server):
         return made
 
     rows = [
-        ("cut UTF-8, and a letter elsewhere", [b"1234567\xc3", "Süd".encode()], ["1234567", "Süd"], "the file ends them within a letter"),
-        ("cut UTF-8, and a letter in the same", [b"\xc3\xbc23456\xc3"], ["ü23456"], "the file ends them within a letter"),
+        (
+            "cut UTF-8, and a letter elsewhere",
+            [b"1234567\xc3", "Süd".encode()],
+            ["1234567", "Süd"],
+            "the file ends them within a letter",
+        ),
+        (
+            "cut UTF-8, and a letter in the same",
+            [b"\xc3\xbc23456\xc3"],
+            ["ü23456"],
+            "the file ends them within a letter",
+        ),
         ("Windows-1252 that fills the field", [b"1234567\xe9", b"plain"], ["1234567é", "plain"], GUESSED),
         ("Windows-1252 shorter than the field", [b"Caf\xe9", b"1234567\xc3"], ["Café", "1234567Ã"], GUESSED),
-        ("one of Windows-1252 among UTF-8", ["Süd".encode(), b"Flu\xdf", b"1234567\xc3"], ["Süd", "Fluß", "1234567Ã"], GUESSED),
+        (
+            "one of Windows-1252 among UTF-8",
+            ["Süd".encode(), b"Flu\xdf", b"1234567\xc3"],
+            ["Süd", "Fluß", "1234567Ã"],
+            GUESSED,
+        ),
     ]
     for at, (name, texts, wanted, said) in enumerate(rows):
         code, lines = imported(raw(f"cut{at}", texts), server.url)
-        cases.show(f"encodings: {name}", (code, names(server, f"cut{at}"), any(said in line for line in lines)), (0, wanted, True))
+        cases.show(
+            f"encodings: {name}",
+            (code, names(server, f"cut{at}"), any(said in line for line in lines)),
+            (0, wanted, True),
+        )
 
 
 def tables(cases, folder, server):
@@ -100,14 +123,25 @@ def tables(cases, folder, server):
         found = [one for _, one in sorted(listed(server).items()) if one["layer"] == f"table{at}"]
         is_there = all(abs(a - b) <= 1 for one in found for a, b in zip(one["geometry"]["points"][0], world(7.5, 54.5)))
         tags = [one["tags"] for one in found]
-        cases.show(f"encodings: {name} of Excel", (code, is_there, tags), (0, True, [{"name": text, "breite": "1,25"} for text in TEXTS]))
+        cases.show(
+            f"encodings: {name} of Excel",
+            (code, is_there, tags),
+            (0, True, [{"name": text, "breite": "1,25"} for text in TEXTS]),
+        )
     path = os.path.join(folder, "thousands.csv")
     with open(path, "w", encoding="utf-8") as file:
         file.write("name;RW;HW\na;402.861,31;6.040.189,51\nb;402861,31;6040189,51\nc;;\n")
     code, lines = imported(path, server.url, "--x", "RW", "--y", "HW", "--crs", "EPSG:25832", "--first", "900")
-    refused = "feature 900 (row 1) refused: not sent: its RW is '402.861,31' and its HW is '6.040.189,51': two numbers are needed"
+    refused = (
+        "feature 900 (row 1) refused: not sent: its RW is '402.861,31' and its HW is '6.040.189,51': two numbers are"
+        " needed"
+    )
     found = code, any(line.startswith(refused) for line in lines), names(server, "thousands")
-    cases.show("encodings: a number with separators of thousands is refused, and one without a place is none", found, (1, True, ["b"]))
+    cases.show(
+        "encodings: a number with separators of thousands is refused, and one without a place is none",
+        found,
+        (1, True, ["b"]),
+    )
 
 
 def encodings(cases: Cases, folder: str) -> None:

@@ -1,5 +1,5 @@
-"""The part `endings` of run.py: how the commands of vtmap end without a server, with a wrong address or path, where nothing can be written, and
-by Ctrl-C. None ends with a traceback, and none replaces what is no regular file."""
+"""The part `endings` of run.py: how the commands of vtmap end without a server, with a wrong address or path, where
+nothing can be written, and by Ctrl-C. None ends with a traceback, and none replaces what is no regular file."""
 import os
 import re
 import resource
@@ -21,7 +21,8 @@ def has_pillow():
 
 
 def commands(cases, folder):
-    """Each command with its words, and the status that it ends with if the server doesn't answer. `URL` stands for the address."""
+    """Each command with its words, and the status that it ends with if the server doesn't answer. `URL` stands for
+    the address."""
     saved = os.path.join(folder, "saved.jsonl")
     with open(saved, "w", encoding="utf-8") as file:
         file.write('{"feature":%s,"id":7}\n' % feature())
@@ -48,14 +49,26 @@ def ended(words, url="", stdout=subprocess.PIPE, most=None):
     """The status of a script, and the lines that it printed. `most` are the bytes that a file may have."""
     words = line_of(words, url)
     limited = most and (lambda: resource.setrlimit(resource.RLIMIT_FSIZE, (most, most)))
-    child = subprocess.run(words, stdin=subprocess.DEVNULL, stdout=stdout, stderr=subprocess.PIPE, text=True, preexec_fn=limited, timeout=100)
+    child = subprocess.run(
+        words,
+        stdin=subprocess.DEVNULL,
+        stdout=stdout,
+        stderr=subprocess.PIPE,
+        text=True,
+        preexec_fn=limited,
+        timeout=100,
+    )
     return child.returncode, ((child.stdout or "") + child.stderr).splitlines()
 
 
 def shows(cases, name, found, status, said):
     """Shows the status of a script, and whether it said this in a few lines."""
     code, lines = found
-    is_plain = len(lines) <= 5 and not any("Traceback" in line for line in lines) and re.search(said, "\n".join(lines)) is not None
+    is_plain = (
+        len(lines) <= 5
+        and not any("Traceback" in line for line in lines)
+        and re.search(said, "\n".join(lines)) is not None
+    )
     cases.show(f"endings: {name}", (code, is_plain or lines), (status, True))
 
 
@@ -64,7 +77,9 @@ def interrupted(words):
     with socket.create_server(("127.0.0.1", 0)) as listener:
         url = f"http://127.0.0.1:{listener.getsockname()[1]}"
         words = line_of(words, url)
-        child = subprocess.Popen(words, stdin=subprocess.DEVNULL, stdout=subprocess.PIPE, stderr=subprocess.PIPE, text=True)
+        child = subprocess.Popen(
+            words, stdin=subprocess.DEVNULL, stdout=subprocess.PIPE, stderr=subprocess.PIPE, text=True
+        )
         listener.settimeout(60)
         with listener.accept()[0] as stream:
             stream.recv(1)
@@ -82,7 +97,9 @@ def without_a_server(cases: Cases, folder: str) -> None:
         for wrong in WRONG:
             code, lines = ended(words, wrong)
             is_plain = not any("Traceback" in line for line in lines)
-            cases.show(f"endings: {words[0]} with the address {wrong}", (code in (1, 2, 3), is_plain or lines), (True, True))
+            cases.show(
+                f"endings: {words[0]} with the address {wrong}", (code in (1, 2, 3), is_plain or lines), (True, True)
+            )
         # A publication is awaited: it is cancelled then.
         if words[0] != "publish":
             shows(cases, f"{words[0]} and Ctrl-C", interrupted(words), 130, "interrupted")
@@ -93,7 +110,13 @@ def full_output(cases, folder, url):
     with open("/dev/full", "wb") as device:
         save = ["save", os.path.join(folder, "m"), "--url", "URL"]
         for words in [["watch", "--url", "URL"], ["delete-layer", "none", "--url", "URL"], ["town.py"], save]:
-            shows(cases, f"{words[0]} whose output is full", ended(words, url, device), 3 if words[0] == "watch" else 1, "No space left on device")
+            shows(
+                cases,
+                f"{words[0]} whose output is full",
+                ended(words, url, device),
+                3 if words[0] == "watch" else 1,
+                "No space left on device",
+            )
 
 
 def unwritable(cases, folder, url):
@@ -111,7 +134,9 @@ def unwritable(cases, folder, url):
     ]
     for name, status, words in rows:
         shows(cases, f"{name} into no folder", ended(words(nowhere), url), status, "No such file|unable to open")
-        shows(cases, f"{name} of a file that can't grow", ended(words(small), url, most=8), status, "too large|full|I/O")
+        shows(
+            cases, f"{name} of a file that can't grow", ended(words(small), url, most=8), status, "too large|full|I/O"
+        )
         if not name.startswith("draw"):
             shows(cases, f"{name} over a pipe", ended(words(pipe), url), status, "no regular file")
     cases.show("endings: the pipe is one still", stat.S_ISFIFO(os.stat(pipe).st_mode), True)
@@ -123,8 +148,16 @@ def there_already(cases, folder, url):
     words = ["qgis", path, "--maxzoom", "2", "--centre", "7,54", "--url", "URL"]
     with open(path, "w", encoding="utf-8") as file:
         file.write("mine")
-    shows(cases, "vtmap qgis over a file that is there", ended(words, url), 1, f"{path} exists: give --force to write it anew")
-    shows(cases, "vtmap qgis --force of a file that can't grow", ended([*words, "--force"], url, most=8), 1, "too large")
+    shows(
+        cases,
+        "vtmap qgis over a file that is there",
+        ended(words, url),
+        1,
+        f"{path} exists: give --force to write it anew",
+    )
+    shows(
+        cases, "vtmap qgis --force of a file that can't grow", ended([*words, "--force"], url, most=8), 1, "too large"
+    )
     with open(path, encoding="utf-8") as file:
         cases.show("endings: the file is as it was", file.read(), "mine")
     shows(cases, "vtmap qgis --force", ended([*words, "--force"], url), 0, "type=xyz")
@@ -145,10 +178,18 @@ def wrong_paths(cases, folder, url):
         ("vtmap checkin of no file", 1, ["checkin", nowhere]),
         ("vtmap checkin of another file", 1, ["checkin", SURVEY]),
         ("ids that are none", 2, ["delete-layer", "p", "--numbers", "x", "--url", "URL"]),
-        *([
-            ("an import of no file", 1, ["import", nowhere, "--url", "URL"]),
-            ("an import whose --ids is another file", 1, ["import", SURVEY, "--id", "name", "--ids", ids, "--url", "URL"]),
-        ] if has_gdal(cases) else []),
+        *(
+            [
+                ("an import of no file", 1, ["import", nowhere, "--url", "URL"]),
+                (
+                    "an import whose --ids is another file",
+                    1,
+                    ["import", SURVEY, "--id", "name", "--ids", ids, "--url", "URL"],
+                ),
+            ]
+            if has_gdal(cases)
+            else []
+        ),
     ]:
         shows(cases, name, ended(words, url), status, "")
     with open(ids, encoding="utf-8") as file:

@@ -1,4 +1,5 @@
-"""What the parts `wfs`, `wfs-deaths` and `ogc` of run.py share: a process of `vtmap wfs`, and a GIS that reads and saves by WFS as QGIS does."""
+"""What the parts `wfs`, `wfs-deaths` and `ogc` of run.py share: a process of `vtmap wfs`, and a GIS that reads and
+saves by WFS as QGIS does."""
 import json
 import os
 import re
@@ -20,7 +21,9 @@ GML = 'xmlns="http://www.opengis.net/wfs" xmlns:ogc="http://www.opengis.net/ogc"
 class Gateway:
     """A process of `vtmap wfs` for the server at a URL."""
 
-    def __init__(self, folder: str, url: str, *more: str, port: Optional[int] = None, under: Iterable[str] = ()) -> None:
+    def __init__(
+        self, folder: str, url: str, *more: str, port: Optional[int] = None, under: Iterable[str] = ()
+    ) -> None:
         self.port, self.path = port or free_port(), os.path.join(folder, "gateway.log")
         self.url = f"http://127.0.0.1:{self.port}"
         self.log = open(self.path, "ab")
@@ -71,7 +74,9 @@ class Gis:
     def get(self, request: str, **given: object) -> str:
         """The text of a reply."""
         names = "TYPENAMES" if self.version == "2.0.0" else "TYPENAME"
-        query = urllib.parse.urlencode({"SERVICE": "WFS", "VERSION": self.version, "REQUEST": request, names: f"v:{self.layer}", **given})
+        query = urllib.parse.urlencode(
+            {"SERVICE": "WFS", "VERSION": self.version, "REQUEST": request, names: f"v:{self.layer}", **given}
+        )
         return text_of(f"{self.url}?{query}", *self.words)
 
     def rows(self, **given: object) -> dict[int, dict[str, Any]]:
@@ -91,7 +96,10 @@ class Gis:
 
     def update(self, number: int, **values: object) -> str:
         """The action that changes a feature."""
-        made = "".join(f"<Property><Name>{name}</Name>{'' if value is None else f'<Value>{value}</Value>'}</Property>" for name, value in values.items())
+        made = "".join(
+            f"<Property><Name>{name}</Name>{'' if value is None else f'<Value>{value}</Value>'}</Property>"
+            for name, value in values.items()
+        )
         return f'<Update typeName="v:{self.layer}">{made}{self.named(number)}</Update>'
 
     def delete(self, number: int) -> str:
@@ -114,13 +122,16 @@ class Gis:
         """The same, of a whole body."""
         told = text_of(self.url, *self.words, body=body)
         fault = re.search("<ows:ExceptionText>(.*?)</ows:ExceptionText>", told, re.DOTALL)
-        return fault[1] if fault else " ".join([*re.findall("SUCCESS", told), *re.findall('fid="([^"]*)"', told)]) or told
+        return (
+            fault[1] if fault else " ".join([*re.findall("SUCCESS", told), *re.findall('fid="([^"]*)"', told)]) or told
+        )
 
 
 def triangle(x: float, y: float, side: float) -> str:
     """A triangle in GML 2, of which a corner and a side are given in metres."""
     ring = " ".join(f"{east},{north}" for east, north in ((x, y), (x + side, y), (x + side, y + side), (x, y)))
-    shape = f"<gml:outerBoundaryIs><gml:LinearRing><gml:coordinates>{ring}</gml:coordinates></gml:LinearRing></gml:outerBoundaryIs>"
+    line = f"<gml:LinearRing><gml:coordinates>{ring}</gml:coordinates></gml:LinearRing>"
+    shape = f"<gml:outerBoundaryIs>{line}</gml:outerBoundaryIs>"
     return f'<gml:Polygon srsName="EPSG:3857">{shape}</gml:Polygon>'
 
 

@@ -16,7 +16,8 @@ import time
 from .meanwhile import BEGIN, WHOLE, answer, has_begun, looked_at, status_of
 from .stand import Cases, Server, curl, feature
 
-# A map of more than 1,024 features, each with points in all tiles of zooms 0 and 1: each of these tiles is made by parts.
+# A map of more than 1,024 features, each with points in all tiles of zooms 0 and 1: each of these tiles is made by
+# parts.
 FEATURES, BATCH, POINTS = 8192, 64, 30
 # How many seconds others wait at most for a large tile, and for a publication.
 BOUND = 5
@@ -91,7 +92,8 @@ def fill(server):
 
 
 class Looker:
-    """A client that looks at a feature: whatever was sent before two looks was read before their replies, and had its turn."""
+    """A client that looks at a feature: whatever was sent before two looks was read before their replies, and had
+    its turn."""
 
     def __init__(self, server):
         self.connection = http.client.HTTPConnection("127.0.0.1", server.port)
@@ -177,7 +179,8 @@ class Stand:
         return streams
 
     def wanted(self):
-        """The tiles and the archive of this version of the map, as a server makes them that has just opened a copy of the disk."""
+        """The tiles and the archive of this version of the map, as a server makes them that has just opened a copy
+        of the disk."""
         if self.version not in self.fresh:
             copy = os.path.join(self.folder, "fresh")
             shutil.copyfile(self.server.disk, copy)
@@ -196,7 +199,8 @@ class Stand:
             return *reply_in_time(other), time.monotonic() - since
 
     def published(self):
-        """How a publication by another client ends, and how long it takes. One that somebody has begun who is gone is cancelled before."""
+        """How a publication by another client ends, and how long it takes. One that somebody has begun who is gone
+        is cancelled before."""
         with self.connected() as other:
             since = time.monotonic()
             other.sendall(WHOLE)
@@ -215,14 +219,19 @@ class Stand:
         archive = curl(self.server.url + "/map.pmtiles")[2]
         tiles, whole = self.wanted()
         self.times.append((took, published_in))
-        self.cases.show(f"{name}: another client gets its tile", [status, tile == tiles[tile_of(OTHER)], took < BOUND], [200, True, True])
+        self.cases.show(
+            f"{name}: another client gets its tile",
+            [status, tile == tiles[tile_of(OTHER)], took < BOUND],
+            [200, True, True],
+        )
         self.cases.show(f"{name}: and publishes", [ended, archive == whole, published_in < BOUND], [200, True, True])
         if staying:
             right = [status == 200 and content == tiles.get(request, content) for request, status, content in replies]
             self.cases.show(f"{name}: who stays gets a reply", right, [True] * len(replies))
 
     def row(self, name, requests, leavers, resets):
-        """Some hang up before their replies. If one had its reply before, all is done again, once nothing is made any more: a tile takes 20 ms."""
+        """Some hang up before their replies. If one had its reply before, all is done again, once nothing is made
+        any more: a tile takes 20 ms."""
         for _ in range(20):
             self.change()
             streams = self.asked(requests)
@@ -241,7 +250,8 @@ class Stand:
             streams[place].close()
 
     def while_written(self, resets, waits):
-        """Who publishes hangs up while the sectors are written, and maybe others that wait. If it was over before, all is done again."""
+        """Who publishes hangs up while the sectors are written, and maybe others that wait. If it was over before,
+        all is done again."""
         for _ in range(100):
             self.change()
             streams = self.asked([WHOLE])
@@ -253,24 +263,36 @@ class Stand:
             if is_written:
                 break
             self.published()
-        name = f"who publishes, while it is written{', and others that wait' if waits else ''}, {'reset' if resets else 'closed'}"
+        name = (
+            f"who publishes, while it is written{', and others that wait' if waits else ''},"
+            f" {'reset' if resets else 'closed'}"
+        )
         self.cases.show(f"{name}: it wasn't over", is_written, True)
         self.others_are_served(name)
 
     def nothing_is_written(self):
-        """Of a publication that is prepared, and of one that has begun, no byte is on the disk, also after its asker is gone and the process killed."""
+        """Of a publication that is prepared, and of one that has begun, no byte is on the disk, also after its asker
+        is gone and the process killed."""
         self.change()
         with open(self.server.disk, "rb") as disk:
             before = disk.read()
             stream = self.asked([BEGIN])[0]
             drafting = status_of(self.server)["drafting"]
             disk.seek(0)
-            self.cases.show("while a publication is prepared, the disk is as it was", [drafting is not None, disk.read() == before], [True, True])
+            self.cases.show(
+                "while a publication is prepared, the disk is as it was",
+                [drafting is not None, disk.read() == before],
+                [True, True],
+            )
             hang_up(stream, True)
             begun, _ = looked_at(self.server, has_begun)
             self.server.end(signal.SIGKILL)
             disk.seek(0)
-            self.cases.show("once it has begun, and the server was killed, it is too", [begun[-1] > 0, disk.read() == before], [True, True])
+            self.cases.show(
+                "once it has begun, and the server was killed, it is too",
+                [begun[-1] > 0, disk.read() == before],
+                [True, True],
+            )
 
     def refused(self):
         """Of a publication whose request its head refuses nothing is prepared."""
@@ -304,7 +326,11 @@ class Stand:
                 while min(one.count - before[0], other.count - before[1]) < 3 and time.monotonic() < until:
                     time.sleep(0.01)
                 goes_on.append(time.monotonic() < until)
-        self.cases.show("beside two editors: their edits go on once the client is gone for whose tile they wait", goes_on, [True] * len(HELD))
+        self.cases.show(
+            "beside two editors: their edits go on once the client is gone for whose tile they wait",
+            goes_on,
+            [True] * len(HELD),
+        )
         self.change()
         self.others_are_served("after the two editors")
 
@@ -319,7 +345,11 @@ class Stand:
             edits = editor.count - before
         self.times.append((took, published_in))
         found = [status, took < BOUND, ended, published_in < BOUND, edits > 1]
-        self.cases.show("beside an editor: another client gets its tile, and publishes, and the edits go on", found, [200, True, 200, True, True])
+        self.cases.show(
+            "beside an editor: another client gets its tile, and publishes, and the edits go on",
+            found,
+            [200, True, 200, True, True],
+        )
         self.change()
         self.others_are_served("after the editor")
 
@@ -339,7 +369,10 @@ def hang_ups(cases: Cases, folder: str) -> None:
         stand.beside_an_editor()
         stand.nothing_is_written()
         stand.looker.connection.close()
-        cases.say(f"the longest waits: for a tile {max(took for took, _ in stand.times):.2f} s, for a publication {max(took for _, took in stand.times):.2f} s")
+        cases.say(
+            f"the longest waits: for a tile {max(took for took, _ in stand.times):.2f} s, for a publication"
+            f" {max(took for _, took in stand.times):.2f} s"
+        )
     os.remove(server.disk)
 
 
@@ -349,7 +382,10 @@ def crowd(port, count):
 
     def send(stream):
         body = feature("far", 5, 5, {"points": [[number, 5]]}).encode()
-        stream.sendall(b"PUT /features/%d HTTP/1.1\r\nhost: x\r\ncontent-length: %d\r\n\r\n%s" % (9000 + number % count, len(body), body))
+        stream.sendall(
+            b"PUT /features/%d HTTP/1.1\r\nhost: x\r\ncontent-length: %d\r\n\r\n%s"
+            % (9000 + number % count, len(body), body)
+        )
 
     for _ in range(count):
         stream = socket.create_connection(("127.0.0.1", port))
@@ -363,8 +399,8 @@ def crowd(port, count):
 
 
 def shrinking(cases: Cases, folder: str) -> None:
-    """A map comes down to 1,024 features while a large tile is made and another client waits for its own, and grows again. Neither of the two asks
-    any more; another large tile is wanted beside twenty editors."""
+    """A map comes down to 1,024 features while a large tile is made and another client waits for its own, and grows
+    again. Neither of the two asks any more; another large tile is wanted beside twenty editors."""
     far = feature("far", 5, 5, {"points": [[1, 5]]})
     wide = feature(last=1, geometry={"points": [[0, 0], [2**31, 2**31], [2**32 - 1, 2**32 - 1]]})
     added = [{"put": 5000 + number, "feature": json.loads(wide)} for number in range(64)]
@@ -379,7 +415,10 @@ def shrinking(cases: Cases, folder: str) -> None:
             chance = random.Random(number)
             places = [[chance.randrange(2**32), chance.randrange(2**32)] for _ in range(600)]
             edit(f"/features/{number}", feature(last=1, geometry={"points": places}), "PUT")
-        edit("/edits", json.dumps({"changes": [{"put": 9000 + number, "feature": json.loads(far)} for number in range(20)]}))
+        edit(
+            "/edits",
+            json.dumps({"changes": [{"put": 9000 + number, "feature": json.loads(far)} for number in range(20)]}),
+        )
         edit("/edits", json.dumps({"changes": added}))
         streams = [socket.create_connection(("127.0.0.1", server.port)) for _ in range(2)]
         for stream, request in zip(streams, (A, B)):

@@ -1,6 +1,7 @@
 """What the parts of run.py about `vtmap import` share.
 
-Files are written here as GeoJSON and made into other formats by ogr2ogr. Wanted coordinates are computed from the formula of Web Mercator.
+Files are written here as GeoJSON and made into other formats by ogr2ogr. Wanted coordinates are computed from the
+formula of Web Mercator.
 """
 import json
 import math
@@ -27,7 +28,9 @@ def world(longitude: float, latitude: float) -> Place:
 
 def is_near(found: Sequence, sought: Sequence, most: float = 1) -> bool:
     """Whether two lists of points are the same up to so many units."""
-    return len(found) == len(sought) and all(abs(a - b) <= most for one, other in zip(found, sought) for a, b in zip(one, other))
+    return len(found) == len(sought) and all(
+        abs(a - b) <= most for one, other in zip(found, sought) for a, b in zip(one, other)
+    )
 
 
 def row(kind: str, coordinates: list, **properties: object) -> Row:
@@ -64,7 +67,10 @@ def shown(server: Any, number: int) -> Any:
 
 def has_gdal(cases: Cases) -> bool:
     """Whether the import can run here."""
-    if shutil.which("ogr2ogr") and subprocess.run([SYSTEM_PYTHON, "-c", "import osgeo.ogr"], capture_output=True).returncode == 0:
+    if (
+        shutil.which("ogr2ogr")
+        and subprocess.run([SYSTEM_PYTHON, "-c", "import osgeo.ogr"], capture_output=True).returncode == 0
+    ):
         return True
     cases.say("no ogr2ogr, or no GDAL in the system's Python: no file is put into the map")
     return False
@@ -77,8 +83,15 @@ def round_ring(longitude: float, latitude: float, metres: float, points: int, lo
     """A ring of a width of about so many metres."""
     found = []
     for at in range(points):
-        turn, far = 2 * math.pi * at / points, metres / 2 * (1 + lobes * math.sin(10 * math.pi * at / points) + 0.01 * math.sin(at))
-        found.append([longitude + far * math.cos(turn) / (111320 * math.cos(math.radians(latitude))), latitude + far * math.sin(turn) / 111320])
+        turn, far = 2 * math.pi * at / points, metres / 2 * (
+            1 + lobes * math.sin(10 * math.pi * at / points) + 0.01 * math.sin(at)
+        )
+        found.append(
+            [
+                longitude + far * math.cos(turn) / (111320 * math.cos(math.radians(latitude))),
+                latitude + far * math.sin(turn) / 111320,
+            ]
+        )
     return [*found, found[0]]
 
 
@@ -91,7 +104,9 @@ def area_of(rings: Sequence) -> float:
 def features_between(server: Any, folder: str, first: int, last: int) -> dict[int, Row]:
     """The features of these numbers, as vtmap saves them: as the body of a PUT each."""
     path = os.path.join(folder, "saved.geojson")
-    subprocess.run([*VTMAP, "save", path, "--numbers", f"{first}-{last}", "--url", server.url], check=True, capture_output=True)
+    subprocess.run(
+        [*VTMAP, "save", path, "--numbers", f"{first}-{last}", "--url", server.url], check=True, capture_output=True
+    )
     with open(path, encoding="utf-8") as file:
         return {row["id"]: row for row in json.load(file)["features"]}
 
@@ -107,7 +122,9 @@ def lists_of(row: Row, depth: int) -> list:
 
 def estimated(cases: Cases, server: Any, name: str, lines: list[str]) -> None:
     """Shows whether the import's estimate of an area is between a half and the double of what a publication takes."""
-    said = next(int(found[1].replace(",", "")) for line in lines if (found := re.search(r"about ([\d,]+) of an area", line)))
+    said = next(
+        int(found[1].replace(",", "")) for line in lines if (found := re.search(r"about ([\d,]+) of an area", line))
+    )
     taken = json.loads(curl(server.url + "/publish/begin", "-X", "POST")[2])["left"] - 1
     curl(server.url + "/publish/cancel", "-X", "POST")
     cases.show(f"large: the estimate of an area, {name}", taken / 2 <= said <= taken * 2, True)

@@ -50,14 +50,28 @@ def features_of(chance, at):
     """The features of a map: points, lines and areas with tags of each type. Other maps have some with another type."""
     found = {}
     for one in range(EACH):
-        x, y = ((at // side % 2) * SIDE + 2 ** 30 + chance.randrange(-OVERLAP, SIDE + OVERLAP) for side in (1, 2))
-        shapes = [{"points": [[x, y]]}, {"lines": [[[x, y], [x + 2 ** 22, y + 2 ** 21]]]},
-                  {"polygons": [[[[x, y], [x + 2 ** 23, y], [x + 2 ** 23, y + 2 ** 22]]]]}]
-        tags = {"name": chance.choice(["Ö", "b", "c"]), "floors": chance.choice([1, 2, -3]), "of": [7, "text", True, 7][at], f"k{at}": one % 2 == 0}
+        x, y = ((at // side % 2) * SIDE + 2**30 + chance.randrange(-OVERLAP, SIDE + OVERLAP) for side in (1, 2))
+        shapes = [
+            {"points": [[x, y]]},
+            {"lines": [[[x, y], [x + 2**22, y + 2**21]]]},
+            {"polygons": [[[[x, y], [x + 2**23, y], [x + 2**23, y + 2**22]]]]},
+        ]
+        tags = {
+            "name": chance.choice(["Ö", "b", "c"]),
+            "floors": chance.choice([1, 2, -3]),
+            "of": [7, "text", True, 7][at],
+            f"k{at}": one % 2 == 0,
+        }
         tags = {key: value for key, value in tags.items() if chance.random() < 0.7}
         layer = chance.choice(["road", "area", "õ", f"own{at}"])
         first = min(at, 2) + chance.randrange(2)
-        found[1000 * at + one] = {"layer": layer, "minzoom": first, "maxzoom": ZOOM - at, "geometry": chance.choice(shapes), "tags": tags}
+        found[1000 * at + one] = {
+            "layer": layer,
+            "minzoom": first,
+            "maxzoom": ZOOM - at,
+            "geometry": chance.choice(shapes),
+            "tags": tags,
+        }
     return found
 
 
@@ -69,20 +83,36 @@ def regions(cases: Cases, folder: str) -> None:
     paths = [kept(folder, f"map{at}.pmtiles", archive_of(found)) for at, found in enumerate(maps)]
     out = os.path.join(folder, "country.pmtiles")
     status, lines = joined(*paths, out)
-    tiles = [{number for entry in model.listed(read(path)) for number in range(entry.id, entry.id + entry.run)} for path in paths]
+    tiles = [
+        {number for entry in model.listed(read(path)) for number in range(entry.id, entry.id + entry.run)}
+        for path in paths
+    ]
     several = sum(sum(number in found for found in tiles) > 1 for number in set.union(*tiles))
     counts = model.counts_of(model.listed(country))
-    said = "4 archives joined: {addressed:,} tiles (%d merged), {entries:,} entries, {contents:,} contents, %s bytes" % (several, f"{len(country):,}")
+    said = (
+        "4 archives joined: {addressed:,} tiles (%d merged), {entries:,} entries, {contents:,} contents, %s bytes"
+        % (several, f"{len(country):,}")
+    )
     cases.show("join: four maps", (status, lines, several > 40), (0, [said.format(**counts)], True))
     cases.show("join: the archive is that of one map of all", read(out) == country, True)
     joined(*reversed(paths), out, "--replace")
     cases.show("join: whatever the order", read(out) == country, True)
-    cases.show("join: nothing is left beside it", [name for name in os.listdir(folder) if "part" in name or name.startswith("tmp")], [])
+    cases.show(
+        "join: nothing is left beside it",
+        [name for name in os.listdir(folder) if "part" in name or name.startswith("tmp")],
+        [],
+    )
     verified = subprocess.run([PROGRAM, "verify", out], capture_output=True, text=True).stdout.strip()
-    cases.show("join: vtserve verify, and another reader", (verified, model.judged(read(out))), (model.judged(country),) * 2)
+    cases.show(
+        "join: vtserve verify, and another reader", (verified, model.judged(read(out))), (model.judged(country),) * 2
+    )
     if has_gdal(cases):
         words = [SYSTEM_PYTHON, os.path.join(HERE, "read_tiles.py"), out]
-        cases.show("join: GDAL reads each tile", json.loads(subprocess.run(words, capture_output=True).stdout)["contents"], counts["contents"])
+        cases.show(
+            "join: GDAL reads each tile",
+            json.loads(subprocess.run(words, capture_output=True).stdout)["contents"],
+            counts["contents"],
+        )
     one = os.path.join(folder, "one.pmtiles")
     cases.show("join: one archive stays as it is", (joined(paths[0], one)[0], read(one) == read(paths[0])), (0, True))
     nested = os.path.join(folder, "nested.pmtiles")
@@ -96,21 +126,44 @@ def refused(cases, name, folder, words, said):
     out = kept(folder, "kept.pmtiles", b"as it was")
     status, lines = joined(*words, out, "--replace")
     cases.show(f"join: {name}", (status, len(lines), said in lines[-1] or lines, read(out)), (1, 1, True, b"as it was"))
-    cases.show(f"join: {name}, nothing is left", sorted(part for part in os.listdir(folder) if part.startswith("kept") or "tmp" in part), ["kept.pmtiles"])
+    cases.show(
+        f"join: {name}, nothing is left",
+        sorted(part for part in os.listdir(folder) if part.startswith("kept") or "tmp" in part),
+        ["kept.pmtiles"],
+    )
 
 
 def shared_ids(cases: Cases, folder: str) -> None:
     """Two maps with a feature of one id."""
-    first, second = kept(folder, "first.pmtiles", archive()), kept(folder, "second.pmtiles", archive_of({7: json.loads(SECOND)}))
-    refused(cases, "ids that two maps share are refused", folder, [first, second],
-            f"tile 0/0/0, layer 'p': {first} and {second} have the feature 7 each (--first")
+    first, second = kept(folder, "first.pmtiles", archive()), kept(
+        folder, "second.pmtiles", archive_of({7: json.loads(SECOND)})
+    )
+    refused(
+        cases,
+        "ids that two maps share are refused",
+        folder,
+        [first, second],
+        f"tile 0/0/0, layer 'p': {first} and {second} have the feature 7 each (--first",
+    )
     out = os.path.join(folder, "chosen.pmtiles")
-    cases.show("join: --first", (joined(first, second, out, "--first")[0], read(out) == archive_of_two(False)), (0, True))
-    cases.show("join: --first of the other one", (joined(second, first, out, "--first", "--replace")[0], read(out) == archive_of_two(True)), (0, True))
+    cases.show(
+        "join: --first", (joined(first, second, out, "--first")[0], read(out) == archive_of_two(False)), (0, True)
+    )
+    cases.show(
+        "join: --first of the other one",
+        (joined(second, first, out, "--first", "--replace")[0], read(out) == archive_of_two(True)),
+        (0, True),
+    )
     refused(cases, "an archive with itself", folder, [first, first], "have the feature 7 each")
-    cases.show("join: an archive with itself, --first", (joined(first, first, out, "--first", "--replace")[0], read(out) == archive()), (0, True))
+    cases.show(
+        "join: an archive with itself, --first",
+        (joined(first, first, out, "--first", "--replace")[0], read(out) == archive()),
+        (0, True),
+    )
     third = kept(folder, "third.pmtiles", archive_of({7: {**json.loads(SECOND), "layer": "q"}}))
-    cases.show("join: one id in two layers", (joined(first, third, out, "--replace")[0], len(model.listed(read(out)))), (0, 2))
+    cases.show(
+        "join: one id in two layers", (joined(first, third, out, "--replace")[0], len(model.listed(read(out)))), (0, 2)
+    )
 
 
 def archive_of_two(is_second):
@@ -129,7 +182,9 @@ def layered(layer=b"", tile_id=0, **header):
     """An archive of another maker, with one tile of one layer `p`, and this in it."""
     maker = model.Maker()
     content = part(3, part(1, b"p") + layer + number(15, 2))
-    return maker.archive([maker.tile(tile_id, 1, content)], metadata=b'{"vector_layers":[{"id":"p","fields":{}}]}', **header)
+    return maker.archive(
+        [maker.tile(tile_id, 1, content)], metadata=b'{"vector_layers":[{"id":"p","fields":{}}]}', **header
+    )
 
 
 def bad_archives(cases: Cases, folder: str) -> None:
@@ -142,23 +197,39 @@ def bad_archives(cases: Cases, folder: str) -> None:
         "no archive": (b"x" * 200, "it is no PMTiles archive"),
         "an empty file": (b"", "it has 0 bytes"),
         "another version": (model.changed(made, version=2), "it is PMTiles version 2"),
-        "compressed directories": (model.changed(made, internal=2), "its directories have the compression gzip: only uncompressed ones are read"),
-        "compressed tiles": (model.changed(made, compression=4), "its tiles have the compression zstd: only uncompressed ones are read"),
+        "compressed directories": (
+            model.changed(made, internal=2),
+            "its directories have the compression gzip: only uncompressed ones are read",
+        ),
+        "compressed tiles": (
+            model.changed(made, compression=4),
+            "its tiles have the compression zstd: only uncompressed ones are read",
+        ),
         "images": (model.changed(made, kind=2), "its tiles have the type 2: only Mapbox vector tiles"),
         "a root directory that is none": (made[:127] + b"\x05" + made[128:], "the directory at byte 127 can't be read"),
         "metadata that are none": (made[:136] + b"[" + made[137:], "its metadata have no list of layers"),
-        "contents after the section of tiles": (model.changed(made, tiles=20), "the content of tile 0/0/0 isn't in the section of tiles"),
+        "contents after the section of tiles": (
+            model.changed(made, tiles=20),
+            "the content of tile 0/0/0 isn't in the section of tiles",
+        ),
         "a tile that is none": (made[:202] + b"\x1a\x7f" + made[204:], "tile 0/0/0 of"),
         "features without ids": (layered(part(2, point)), "has a feature without an id"),
         "another extent": (layered(part(2, number(1, 1) + point) + number(5, 512)), "has another extent"),
-        "a tag without a value": (layered(part(2, number(1, 1) + part(2, bytes([0, 0])) + point)), "has a tag without a key or a value"),
+        "a tag without a value": (
+            layered(part(2, number(1, 1) + part(2, bytes([0, 0])) + point)),
+            "has a tag without a key or a value",
+        ),
         "an id twice": (layered(part(2, number(1, 1) + point) * 2), "has two features of one id"),
     }
     for name, (content, said) in bad.items():
         refused(cases, name, folder, [good, kept(folder, "bad.pmtiles", content)], said)
     refused(cases, "a folder", folder, [good, folder], "it is no regular file")
     nowhere = os.path.join(folder, "none", "out.pmtiles")
-    cases.show("join: a folder that isn't there", joined(good, nowhere), (1, [f"there is no folder {os.path.dirname(nowhere)}"]))
+    cases.show(
+        "join: a folder that isn't there",
+        joined(good, nowhere),
+        (1, [f"there is no folder {os.path.dirname(nowhere)}"]),
+    )
     refused(cases, "a file that isn't there", folder, [good, os.path.join(folder, "none.pmtiles")], "No such file")
     out = kept(folder, "kept.pmtiles", b"as it was")
     status, lines = joined(good, out)
@@ -166,17 +237,27 @@ def bad_archives(cases: Cases, folder: str) -> None:
     # Room for the contents, and not for the archive.
     limited = ["prlimit", "--fsize=100", *VTMAP, "join", good, out, "--replace"]
     child = subprocess.run(limited, capture_output=True, text=True)
-    cases.show("join: a file system that is full", (child.returncode, "File too large" in child.stderr or child.stderr, read(out)), (1, True, b"as it was"))
-    cases.show("join: it leaves nothing", [name for name in os.listdir(folder) if "part" in name or name.startswith("tmp")], [])
+    cases.show(
+        "join: a file system that is full",
+        (child.returncode, "File too large" in child.stderr or child.stderr, read(out)),
+        (1, True, b"as it was"),
+    )
+    cases.show(
+        "join: it leaves nothing", [name for name in os.listdir(folder) if "part" in name or name.startswith("tmp")], []
+    )
     cases.show("join: no OUT", (joined(good)[0], joined()[0]), (2, 2))
-    cases.show("join: a server that doesn't answer", joined("http://127.0.0.1:9", os.path.join(folder, "none.pmtiles"))[0], 3)
+    cases.show(
+        "join: a server that doesn't answer", joined("http://127.0.0.1:9", os.path.join(folder, "none.pmtiles"))[0], 3
+    )
 
 
 def empty_archives(cases: Cases, folder: str) -> None:
     """Archives without tiles."""
     empty = kept(folder, "empty.pmtiles", model.Maker().archive([], metadata=b'{"vector_layers":[]}'))
     good, out = kept(folder, "good.pmtiles", archive()), os.path.join(folder, "with_empty.pmtiles")
-    cases.show("join: an archive without tiles", (joined(empty, good, empty, out)[0], read(out) == archive()), (0, True))
+    cases.show(
+        "join: an archive without tiles", (joined(empty, good, empty, out)[0], read(out) == archive()), (0, True)
+    )
     cases.show("join: none has a tile", joined(empty, empty, out, "--replace")[0], 0)
     verified = subprocess.run([PROGRAM, "verify", out], capture_output=True, text=True).stdout
     cases.show("join: vtserve verify of it", verified, "ok: 0 tiles, 0 entries, 0 contents\n")
@@ -201,17 +282,34 @@ def many_entries(cases: Cases, folder: str) -> None:
     status, lines = joined(*paths, out)
     verified = subprocess.run([PROGRAM, "verify", out], capture_output=True, text=True).stdout
     said = "140000 tiles, 140000 entries, 2 contents"
-    cases.show("join: 140,000 entries", (status, verified, model.judged(read(out))), (0, f"ok: {said}\n", f"ok: {said}"))
+    cases.show(
+        "join: 140,000 entries", (status, verified, model.judged(read(out))), (0, f"ok: {said}\n", f"ok: {said}")
+    )
     leaves = model.entries_of(model.section(read(out), model.header_of(read(out)), "root"))
-    cases.show("join: they are in leaf directories of 512", (len(leaves), {entry.run for entry in leaves}), (-(-140_000 // 512), {0}))
+    cases.show(
+        "join: they are in leaf directories of 512",
+        (len(leaves), {entry.run for entry in leaves}),
+        (-(-140_000 // 512), {0}),
+    )
     # One run over the odd tiles of another archive: the even ones stay as they are, the odd ones are merged.
     maker = model.Maker()
-    wide = kept(folder, "wide.pmtiles", maker.archive([maker.tile(base, 10, part(3, part(1, b"z") + number(15, 2)))], metadata=b'{"vector_layers":[]}'))
+    wide = kept(
+        folder,
+        "wide.pmtiles",
+        maker.archive([maker.tile(base, 10, part(3, part(1, b"z") + number(15, 2)))], metadata=b'{"vector_layers":[]}'),
+    )
     odd = model.Maker()
     every = [odd.tile(base + at, 1, bytes.fromhex(TILE)) for at in range(1, 12, 2)]
     joined(wide, kept(folder, "odd.pmtiles", odd.archive(every, metadata=b'{"vector_layers":[]}')), out, "--replace")
-    wanted = [bytes.fromhex(TILE) * (at % 2) + (part(3, part(1, b"z") + number(15, 2)) if at < 10 else b"") or None for at in range(12)]
-    cases.show("join: a run of which another archive has a part", [model.looked_up(read(out), base + at) for at in range(12)], wanted)
+    wanted = [
+        bytes.fromhex(TILE) * (at % 2) + (part(3, part(1, b"z") + number(15, 2)) if at < 10 else b"") or None
+        for at in range(12)
+    ]
+    cases.show(
+        "join: a run of which another archive has a part",
+        [model.looked_up(read(out), base + at) for at in range(12)],
+        wanted,
+    )
     # A root directory of 5,000 leaves, with four bytes each, doesn't fit into the first 16,384 bytes; 2,500 do.
     writing.LEAF_ENTRIES = 4
     writer = writing.Writer(folder)
@@ -222,8 +320,11 @@ def many_entries(cases: Cases, folder: str) -> None:
     said = model.header_of(read(out))
     leaves = model.entries_of(model.section(read(out), said, "root"))
     sizes = {len(model.leaf_of(read(out), said, leaf, 0)) for leaf in leaves}
-    cases.show("join: the root directory is in the first bytes", (said["root_at"] + said["root"] <= 16384, sizes, len(model.listed(read(out)))),
-               (True, {8}, 20_000))
+    cases.show(
+        "join: the root directory is in the first bytes",
+        (said["root_at"] + said["root"] <= 16384, sizes, len(model.listed(read(out)))),
+        (True, {8}, 20_000),
+    )
 
 
 def addresses(cases: Cases, folder: str) -> None:
@@ -234,7 +335,11 @@ def addresses(cases: Cases, folder: str) -> None:
         refused(cases, "a map that isn't published", folder, [server.url], "404 NotFound")
         cases.show("join: a publication", status_of(curl(server.url + "/publish", "-X", "POST")), 200)
         cases.show("join: the address of a map", (joined(server.url, out)[0], read(out) == archive()), (0, True))
-        cases.show("join: that of its archive", (joined(server.url + "/map.pmtiles", out, "--replace")[0], read(out) == archive()), (0, True))
+        cases.show(
+            "join: that of its archive",
+            (joined(server.url + "/map.pmtiles", out, "--replace")[0], read(out) == archive()),
+            (0, True),
+        )
 
 
 def country(cases: Cases, folder: str) -> None:
@@ -255,31 +360,63 @@ def country(cases: Cases, folder: str) -> None:
         return read(os.path.join(stored, json.loads(read(os.path.join(stored, "newest.json")))["archive"]))
 
     point, other = json.loads(feature()), json.loads(SECOND)
-    with Server(folder, "north", 4096, more=("--admin", "--etags")) as north, Server(folder, "south", 4096, more=("--admin", "--etags")) as south:
+    with Server(folder, "north", 4096, more=("--admin", "--etags")) as north, Server(
+        folder, "south", 4096, more=("--admin", "--etags")
+    ) as south:
         for server, number, body in ((north, 7, feature()), (south, 8, SECOND)):
             curl(f"{server.url}/features/{number}", "-X", "PUT", body=body)
-        cases.show("join: vtmap publish --join, a map that isn't published", published(north, "--join", south.url)[:2], (1, "not joined"))
+        cases.show(
+            "join: vtmap publish --join, a map that isn't published",
+            published(north, "--join", south.url)[:2],
+            (1, "not joined"),
+        )
         curl(south.url + "/publish", "-X", "POST")
         found = published(north, "--join", south.url, "--changed")
-        cases.show("join: vtmap publish --join", (found[:2], newest() == archive_of({7: point, 8: other})), ((0, "published"), True))
+        cases.show(
+            "join: vtmap publish --join",
+            (found[:2], newest() == archive_of({7: point, 8: other})),
+            ((0, "published"), True),
+        )
         found = published(north, "--join", south.url, "--changed")
         wanted = ["the archive has each edit already", "the joined archive has each publication already"]
-        cases.show("join: vtmap publish --join --changed, nothing has", (found, len(os.listdir(stored))), ((0, "published", wanted), 2))
+        cases.show(
+            "join: vtmap publish --join --changed, nothing has",
+            (found, len(os.listdir(stored))),
+            ((0, "published", wanted), 2),
+        )
         curl(south.url + "/features/9", "-X", "PUT", body=feature())
         curl(south.url + "/publish", "-X", "POST")
         found = published(north, "--join", south.url, "--changed")
         both = {7: point, 8: other, 9: point}
-        cases.show("join: vtmap publish --join --changed, the other map has", (found[:2], newest() == archive_of(both)), ((0, "published"), True))
+        cases.show(
+            "join: vtmap publish --join --changed, the other map has",
+            (found[:2], newest() == archive_of(both)),
+            ((0, "published"), True),
+        )
         curl(south.url + "/features/7", "-X", "PUT", body=SECOND)
         curl(south.url + "/publish", "-X", "POST")
         found = published(north, "--join", south.url, "--changed")
-        cases.show("join: vtmap publish --join, an id that both have", (found[:2], newest() == archive_of(both)), ((1, "not joined"), True))
+        cases.show(
+            "join: vtmap publish --join, an id that both have",
+            (found[:2], newest() == archive_of(both)),
+            ((1, "not joined"), True),
+        )
         found = published(north, "--join", south.url, "--changed", "--first")
-        cases.show("join: vtmap publish --join --first", (found[:2], newest() == archive_of(both)), ((0, "published"), True))
+        cases.show(
+            "join: vtmap publish --join --first", (found[:2], newest() == archive_of(both)), ((0, "published"), True)
+        )
         south.end()
         found = published(north, "--join", south.url, "--changed", "--first")
-        cases.show("join: vtmap publish --join, a map that is away", (found[:2], newest() == archive_of(both)), ((3, "not joined"), True))
-        cases.show("join: vtmap publish --join without a place", tool_status("publish", "--url", north.url, "--join", south.url), 2)
+        cases.show(
+            "join: vtmap publish --join, a map that is away",
+            (found[:2], newest() == archive_of(both)),
+            ((3, "not joined"), True),
+        )
+        cases.show(
+            "join: vtmap publish --join without a place",
+            tool_status("publish", "--url", north.url, "--join", south.url),
+            2,
+        )
 
 
 def tool_status(*words):

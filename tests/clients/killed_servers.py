@@ -39,12 +39,25 @@ def kills(cases: Cases, folder: str) -> None:
     for round_of in range(4):
         with Server(folder, "killed", port=port) as server:
             port = server.port
-            lost = [number for number, value in acknowledged.items() if not value <= ((shown(server, number) or {"tags": {}})["tags"].get("n") or -1) <= last]
-            cases.show(f"kills: after {round_of} kills {'each acknowledged edit is there' if round_of else 'the map is empty'}", lost, [])
+            lost = [
+                number
+                for number, value in acknowledged.items()
+                if not value <= ((shown(server, number) or {"tags": {}})["tags"].get("n") or -1) <= last
+            ]
+            cases.show(
+                (
+                    f"kills: after {round_of} kills"
+                    f" {'each acknowledged edit is there' if round_of else 'the map is empty'}"
+                ),
+                lost,
+                [],
+            )
             if round_of == 2:
                 cases.show("kills: a publication", status_of(curl(server.url + "/publish", "-X", "POST")), 200)
             stop, result = threading.Event(), []
-            thread = threading.Thread(target=lambda at: result.append(editor(server.url, at, acknowledged, stop)), args=(last + 1,))
+            thread = threading.Thread(
+                target=lambda at: result.append(editor(server.url, at, acknowledged, stop)), args=(last + 1,)
+            )
             thread.start()
             time.sleep(0.7)
             server.end(signal.SIGKILL)
@@ -52,7 +65,11 @@ def kills(cases: Cases, folder: str) -> None:
             thread.join()
             last = result[0]
     with Server(folder, "killed", port=port) as server:
-        lost = [number for number, value in acknowledged.items() if not value <= ((shown(server, number) or {"tags": {}})["tags"].get("n") or -1) <= last]
+        lost = [
+            number
+            for number, value in acknowledged.items()
+            if not value <= ((shown(server, number) or {"tags": {}})["tags"].get("n") or -1) <= last
+        ]
         cases.show("kills: after 4 kills each acknowledged edit is there", lost, [])
         cases.say(f"{last} edits, {len(acknowledged)} features")
     if not nginx:
@@ -60,7 +77,13 @@ def kills(cases: Cases, folder: str) -> None:
         return
     kills_behind_nginx(cases, folder, nginx, "as it is kept", [])
     stale = "proxy_cache_use_stale error timeout invalid_header http_502 http_504;"
-    kills_behind_nginx(cases, folder, nginx, "with background update", [(f"            {stale}\n", ""), ("# proxy_cache_", "proxy_cache_")])
+    kills_behind_nginx(
+        cases,
+        folder,
+        nginx,
+        "with background update",
+        [(f"            {stale}\n", ""), ("# proxy_cache_", "proxy_cache_")],
+    )
 
 
 def cached(reply):
@@ -69,7 +92,8 @@ def cached(reply):
 
 
 def kills_behind_nginx(cases, folder, nginx, name, changes):
-    """A tile that nginx has in its cache is served, old, while there is no server; it is new again when there is one."""
+    """A tile that nginx has in its cache is served, old, while there is no server; it is new again when there is
+    one."""
     disk = f"behind {name}"
     server = Server(folder, disk)
     try:
@@ -85,18 +109,38 @@ def kills_behind_nginx(cases, folder, nginx, name, changes):
                 server = Server(folder, disk, port=server.port)
                 seen.append(cached(curl(url)))
             stale = sum(state in ("STALE", "UPDATING") for _, state in seen)
-            cases.show(f"kills: two behind nginx, {name}: no 502 for a cached tile", ({status for status, _ in seen}, stale >= 10), ({200}, True))
-            cases.show(f"kills: nginx, {name}: a tile that isn't cached", status_of(curl(front.url + "/map/1/0/0.mvt")), 200)
+            cases.show(
+                f"kills: two behind nginx, {name}: no 502 for a cached tile",
+                ({status for status, _ in seen}, stale >= 10),
+                ({200}, True),
+            )
+            cases.show(
+                f"kills: nginx, {name}: a tile that isn't cached", status_of(curl(front.url + "/map/1/0/0.mvt")), 200
+            )
             curl(server.url + "/features/7", "-X", "DELETE")
             time.sleep(2.2)
             first = status_of(curl(url))
             time.sleep(0.5)
-            cases.show(f"kills: nginx, {name}: after an edit the first tile and the next", (first, status_of(curl(url))), (200 if changes else 204, 204))
+            cases.show(
+                f"kills: nginx, {name}: after an edit the first tile and the next",
+                (first, status_of(curl(url))),
+                (200 if changes else 204, 204),
+            )
             server.end(signal.SIGKILL)
-            replies = [curl(front.url + "/map/2/0/0.mvt", "-X", "PUT"), curl(front.url + "/map/2/0/0.mvt"), curl(front.url + "/map.pmtiles")]
+            replies = [
+                curl(front.url + "/map/2/0/0.mvt", "-X", "PUT"),
+                curl(front.url + "/map/2/0/0.mvt"),
+                curl(front.url + "/map.pmtiles"),
+            ]
             fields = [(status_of(reply), field(reply, "access-control-allow-origin")) for reply in replies]
-            cases.show(f"kills: nginx, {name}: without a server, replies have their field for other origins", fields, [(502, "*")] * 3)
-            cases.show(f"kills: nginx, {name}: clients don't cache errors", field(replies[1], "cache-control"), "no-store")
+            cases.show(
+                f"kills: nginx, {name}: without a server, replies have their field for other origins",
+                fields,
+                [(502, "*")] * 3,
+            )
+            cases.show(
+                f"kills: nginx, {name}: clients don't cache errors", field(replies[1], "cache-control"), "no-store"
+            )
         shutil.rmtree(front.folder)
     finally:
         server.__exit__()

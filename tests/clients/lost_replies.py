@@ -1,5 +1,5 @@
-"""The part `lost-replies` of run.py: edits that are made, and whose replies don't come. None is made twice, none takes back what others do in
-between, and where it can't be known whether one was made the script says so."""
+"""The part `lost-replies` of run.py: edits that are made, and whose replies don't come. None is made twice, none
+takes back what others do in between, and where it can't be known whether one was made the script says so."""
 import os
 import shutil
 
@@ -36,7 +36,11 @@ def unchecked(cases: Cases, folder: str) -> None:
 
         with Between(server, loses=loses) as between:
             code, lines = imported(path, between.url, "--layer", "p", "--maxzoom", "0", "--first", "1")
-        cases.show("lost replies: three batches are three edits", (code, lines[-1], edit_count(server)), (0, "150 taken, 0 refused", 3))
+        cases.show(
+            "lost replies: three batches are three edits",
+            (code, lines[-1], edit_count(server)),
+            (0, "150 taken, 0 refused", 3),
+        )
 
 
 def deleted_meanwhile(cases: Cases, folder: str) -> None:
@@ -59,10 +63,21 @@ def deleted_meanwhile(cases: Cases, folder: str) -> None:
             with Between(server, loses=loses, instead=instead) as between:
                 code, lines = imported(path, between.url, *words)
             left = sorted(listed(server))
-            cases.show(f"lost replies: a feature that somebody deletes isn't made again, {name}", (left, status(server)["edits"]),
-                       ([number for number in range(1, 11) if number != 7], 2))
-            told = "10 taken, 0 refused" if has_feed else "and whether the edit of feature 1 was made isn't known: look at it on the map"
-            cases.show(f"lost replies: and what is told, {name}", (code, any(told in line for line in lines)), (0 if has_feed else 3, True))
+            cases.show(
+                f"lost replies: a feature that somebody deletes isn't made again, {name}",
+                (left, status(server)["edits"]),
+                ([number for number in range(1, 11) if number != 7], 2),
+            )
+            told = (
+                "10 taken, 0 refused"
+                if has_feed
+                else "and whether the edit of feature 1 was made isn't known: look at it on the map"
+            )
+            cases.show(
+                f"lost replies: and what is told, {name}",
+                (code, any(told in line for line in lines)),
+                (0 if has_feed else 3, True),
+            )
 
 
 def by_the_client(cases: Cases, folder: str) -> None:
@@ -87,19 +102,41 @@ def by_the_client(cases: Cases, folder: str) -> None:
                 client.status()
                 refusals = [str(refusal) for _, refusal in client.make(changes) if refusal]
                 client.close()
-            found = refusals, {number: one["tags"]["name"] for number, one in listed(server).items()}, status(server)["edits"] - before
+            found = (
+                refusals,
+                {number: one["tags"]["name"] for number, one in listed(server).items()},
+                status(server)["edits"] - before,
+            )
             cases.show(f"lost replies: {name}", found, ([], wanted, edits))
 
         one, two = point("one"), point("two")
         for has_feed in (True, False):
             more = "" if has_feed else ", where the server doesn't list edits"
-            made(f"checked creations{more}", [checked(put(1, one), None), checked(put(2, one), None)], {1: "one", 2: "one"}, 1, has_feed=has_feed)
+            made(
+                f"checked creations{more}",
+                [checked(put(1, one), None), checked(put(2, one), None)],
+                {1: "one", 2: "one"},
+                1,
+                has_feed=has_feed,
+            )
             made(f"a checked change{more}", [checked(put(1, two), one)], {1: "two", 2: "one"}, 1, has_feed=has_feed)
-            made(f"a checked deletion and a change{more}", [checked(delete(2), one), checked(put(1, one), two)], {1: "one"}, 1, has_feed=has_feed)
+            made(
+                f"a checked deletion and a change{more}",
+                [checked(delete(2), one), checked(put(1, one), two)],
+                {1: "one"},
+                1,
+                has_feed=has_feed,
+            )
             made(f"unchecked ones{more}", [put(1, two), put(3, two)], {1: "two", 3: "two"}, 1, has_feed=has_feed)
             made(f"an unchecked deletion in a batch{more}", [delete(3), put(1, one)], {1: "one"}, 1, has_feed=has_feed)
             made(f"an unchecked deletion alone{more}", [delete(1)], {}, 1, has_feed=has_feed)
-        made("checked ones that weren't made", [checked(put(1, one), None), checked(put(2, one), None)], {1: "one", 2: "one"}, 1, is_made=False)
+        made(
+            "checked ones that weren't made",
+            [checked(put(1, one), None), checked(put(2, one), None)],
+            {1: "one", 2: "one"},
+            1,
+            is_made=False,
+        )
         made("unchecked ones that weren't made", [put(1, two), delete(2)], {1: "two"}, 1, is_made=False)
         client = Client(server.url)
         client.status()

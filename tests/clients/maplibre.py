@@ -1,4 +1,5 @@
-"""Of the part `page` of run.py: what map.html gives MapLibre, and how Mapbox GL JS 1.10.1 draws it, which Debian has within plotly.js."""
+"""Of the part `page` of run.py: what map.html gives MapLibre, and how Mapbox GL JS 1.10.1 draws it, which Debian has
+within plotly.js."""
 import json
 import os
 import subprocess
@@ -32,9 +33,16 @@ def maplibre(cases, folder, front):
     drawing = ["--use-gl=angle", "--use-angle=swiftshader", "--enable-unsafe-swiftshader"]
     with Browser(os.path.join(folder, "maplibre"), WIDE, HIGH, drawing) as browser:
         made = browser.open(f"{front.url}/pages/map.html")
-        given = made.wait("globalThis.given", 10) or {"style": {"sources": {}, "layers": []}, "bounds": [[0, 0], [0, 0]]}
+        given = made.wait("globalThis.given", 10) or {
+            "style": {"sources": {}, "layers": []},
+            "bounds": [[0, 0], [0, 0]],
+        }
         (west, south), (east, north) = given["bounds"]
-        cases.show("page: map.html opens where the published map is", 7.4 < west < 7.49 and 7.51 < east < 7.6 and 54.4 < south < 54.5 < north < 54.6, True)
+        cases.show(
+            "page: map.html opens where the published map is",
+            7.4 < west < 7.49 and 7.51 < east < 7.6 and 54.4 < south < 54.5 < north < 54.6,
+            True,
+        )
         tiles = {"type": "vector", "tiles": [f"{front.url}/map/{{z}}/{{x}}/{{y}}.mvt"], "minzoom": 0, "maxzoom": 16}
         cases.show("page: with the map's tiles and its greatest zoom", given["style"]["sources"].get("map"), tiles)
         cases.show("page: and the browser refuses nothing", made.faults(), [])
@@ -48,7 +56,11 @@ def maplibre(cases, folder, front):
         truth, drawn = os.path.join(folder, "truth-map.png"), os.path.join(folder, "mapbox.png")
         made.picture(drawn)
         draw_truth(front.url, truth)
-        cases.show("page: Mapbox GL takes its style, and draws land where the reader of examples does", water_differs(truth, drawn), Share(0.02))
+        cases.show(
+            "page: Mapbox GL takes its style, and draws land where the reader of examples does",
+            water_differs(truth, drawn),
+            Share(0.02),
+        )
 
 
 def draw_truth(url, path):

@@ -20,7 +20,10 @@ def fill(server):
     chance = random.Random(7)
     for first in range(0, POINTS, BATCH):
         places = [[chance.randrange(2**32), chance.randrange(2**32)] for _ in range(BATCH)]
-        made = [{"put": first + at, "feature": json.loads(feature(last=12, geometry={"points": [place]}))} for at, place in enumerate(places)]
+        made = [
+            {"put": first + at, "feature": json.loads(feature(last=12, geometry={"points": [place]}))}
+            for at, place in enumerate(places)
+        ]
         reply = curl(server.url + "/edits", body=json.dumps({"changes": made}))
     return reply
 
@@ -44,8 +47,8 @@ def answer(asker):
 
 
 def others(server, asker):
-    """How many looks and edits were answered before anything came for who asks, and whether each was right. They are asked on one connection:
-    a process for each would take as long as the publication."""
+    """How many looks and edits were answered before anything came for who asks, and whether each was right. They are
+    asked on one connection: a process for each would take as long as the publication."""
     count, right = 0, True
     other = http.client.HTTPConnection("127.0.0.1", server.port)
 
@@ -83,35 +86,60 @@ def whole(cases: Cases, folder: str) -> None:
     with Server(folder, "whole", 65536) as server:
         fill(server)
         named(server, POINTS, "before")
-        with socket.create_connection(("127.0.0.1", server.port)) as asker, socket.create_connection(("127.0.0.1", server.port)) as second:
+        with socket.create_connection(("127.0.0.1", server.port)) as asker, socket.create_connection(
+            ("127.0.0.1", server.port)
+        ) as second:
             asker.sendall(WHOLE)
             count, right = others(server, asker)
-            cases.show("edits and looks are answered while a whole publication is prepared", (count > 1, right), (True, True))
+            cases.show(
+                "edits and looks are answered while a whole publication is prepared", (count > 1, right), (True, True)
+            )
             status, told = answer(asker)
             archive, after = curl(server.url + "/map.pmtiles")[2], status_of(server)
             cases.show("its reply tells of its archive", (status, json.loads(told)), (200, told_as(archive, after)))
-            cases.show("it has the edits before it", (json.loads(told)["edits"], after["edits"]), (POINTS // BATCH + 1, POINTS // BATCH + 1 + count))
-            cases.show("its archive has what was acknowledged before, and nothing later", layers(archive) & {"before", "meanwhile"}, {"before"})
+            cases.show(
+                "it has the edits before it",
+                (json.loads(told)["edits"], after["edits"]),
+                (POINTS // BATCH + 1, POINTS // BATCH + 1 + count),
+            )
+            cases.show(
+                "its archive has what was acknowledged before, and nothing later",
+                layers(archive) & {"before", "meanwhile"},
+                {"before"},
+            )
             asker.sendall(WHOLE)
             second.sendall(WHOLE)
             found = [answer(asker), answer(second)]
             cases.show("of two whole publications each is made", [status for status, _ in found], [200, 200])
             cases.show("one after the other", sorted(json.loads(told)["generation"] for _, told in found), [2, 3])
             archive = curl(server.url + "/map.pmtiles")[2]
-            cases.show("the archive has the edits since", layers(archive) & {"before", "meanwhile"}, {"before", "meanwhile"})
+            cases.show(
+                "the archive has the edits since", layers(archive) & {"before", "meanwhile"}, {"before", "meanwhile"}
+            )
             asker.sendall(WHOLE)
             second.sendall(BEGIN)
             found = answer(asker), answer(second)
             both = ([200, 200], [409, 200])
-            cases.show("a beginning beside it waits for it, or it for the beginning", [status for status, _ in found] in both, True)
+            cases.show(
+                "a beginning beside it waits for it, or it for the beginning",
+                [status for status, _ in found] in both,
+                True,
+            )
             curl(server.url + "/publish/cancel", "-X", "POST")
             asker.sendall(WHOLE)
-            same(cases, "a cancellation of what is prepared for it", curl(server.url + "/publish/cancel", "-X", "POST"), refusal(409, "Idle"))
+            same(
+                cases,
+                "a cancellation of what is prepared for it",
+                curl(server.url + "/publish/cancel", "-X", "POST"),
+                refusal(409, "Idle"),
+            )
             cases.show("it goes on", answer(asker)[0], 200)
             asker.sendall(WHOLE)
             named(server, POINTS + 1, "late")
             second.sendall(b"\r\n" + WHOLE)
-            cases.show("one behind an empty line isn't answered by what is prepared for another", answer(second)[0], 200)
+            cases.show(
+                "one behind an empty line isn't answered by what is prepared for another", answer(second)[0], 200
+            )
             cases.show("it has each edit before it", "late" in layers(curl(server.url + "/map.pmtiles")[2]), True)
             cases.show("and the other one is made", answer(asker)[0], 200)
             second.sendall(WHOLE)
@@ -132,7 +160,8 @@ def fill_large(server):
 
 
 def looked_at(server, is_over):
-    """What of the publication is left whenever the status is asked for, on one connection, until something is over, and the longest wait for it."""
+    """What of the publication is left whenever the status is asked for, on one connection, until something is over,
+    and the longest wait for it."""
     found, longest = [], 0.0
     other = http.client.HTTPConnection("127.0.0.1", server.port)
     while not is_over(found):
@@ -149,16 +178,21 @@ def has_begun(found):
 
 
 def written(cases: Cases, folder: str) -> None:
-    """A whole publication whose steps are made between other replies, beside other calls of a publication, and one whose asker goes away."""
+    """A whole publication whose steps are made between other replies, beside other calls of a publication, and one
+    whose asker goes away."""
     with Server(folder, "written", 65536) as server:
         fill_large(server)
-        with socket.create_connection(("127.0.0.1", server.port)) as asker, socket.create_connection(("127.0.0.1", server.port)) as second:
+        with socket.create_connection(("127.0.0.1", server.port)) as asker, socket.create_connection(
+            ("127.0.0.1", server.port)
+        ) as second:
             asker.sendall(WHOLE)
             found, longest = looked_at(server, lambda _: select.select([asker], [], [], 0)[0])
             lefts = sorted({left for left in found if left is not None}, reverse=True)
             cases.show("a whole publication of some MB is made", answer(asker)[0], 200)
             cases.show("others are answered while its sectors are written", len(lefts) > 2, True)
-            cases.show("each step is 64 sectors less", {(one - other) % 64 for one, other in zip(lefts, lefts[1:])}, {0})
+            cases.show(
+                "each step is 64 sectors less", {(one - other) % 64 for one, other in zip(lefts, lefts[1:])}, {0}
+            )
             cases.show("nobody waits for a second", longest < 1, True)
             asker.sendall(WHOLE)
             looked_at(server, has_begun)
@@ -171,7 +205,11 @@ def written(cases: Cases, folder: str) -> None:
             asker.sendall(WHOLE)
             status, told = answer(asker)
             archive = curl(server.url + "/map.pmtiles")[2]
-            cases.show("another one is made after who asked is gone", (status, json.loads(told)), (200, told_as(archive, status_of(server))))
+            cases.show(
+                "another one is made after who asked is gone",
+                (status, json.loads(told)),
+                (200, told_as(archive, status_of(server))),
+            )
             asker.sendall(WHOLE)
             looked_at(server, has_begun)
         with socket.create_connection(("127.0.0.1", server.port)) as asker:
@@ -185,7 +223,11 @@ def fill_tile(server):
     """Puts 1,200 points of 3 KB in one place, so that a tile that has them has more than 3 MiB, and makes the tiles."""
     other = http.client.HTTPConnection("127.0.0.1", server.port)
     for number in range(1200):
-        body = feature(first=1, geometry={"points": [[2**28 + number, 2**28]]}, tags={f"k{at}": f"{number} {at} " + "x" * 1000 for at in range(3)})
+        body = feature(
+            first=1,
+            geometry={"points": [[2**28 + number, 2**28]]},
+            tags={f"k{at}": f"{number} {at} " + "x" * 1000 for at in range(3)},
+        )
         other.request("PUT", f"/features/{number}", body)
         other.getresponse().read()
     other.close()
@@ -202,14 +244,21 @@ def tile_of(server, path, method="GET"):
 
 
 def both_tiles(server, paths):
-    """The tiles at two paths, asked for on two connections, and how many edits elsewhere were made meanwhile, each of which was acknowledged."""
+    """The tiles at two paths, asked for on two connections, and how many edits elsewhere were made meanwhile, each
+    of which was acknowledged."""
     count, right = 0, True
     other = http.client.HTTPConnection("127.0.0.1", server.port)
-    with socket.create_connection(("127.0.0.1", server.port)) as asker, socket.create_connection(("127.0.0.1", server.port)) as second:
+    with socket.create_connection(("127.0.0.1", server.port)) as asker, socket.create_connection(
+        ("127.0.0.1", server.port)
+    ) as second:
         for stream, path in zip((asker, second), paths):
             stream.sendall(f"GET {path} HTTP/1.1\r\nhost: x\r\n\r\n".encode())
         while count < 3 or not select.select([second], [], [], 0)[0]:
-            other.request("PUT", f"/features/{2000 + count}", feature(first=1, geometry={"points": [[2**31 + 2**30, 2**31 + 2**30]]}))
+            other.request(
+                "PUT",
+                f"/features/{2000 + count}",
+                feature(first=1, geometry={"points": [[2**31 + 2**30, 2**31 + 2**30]]}),
+            )
             reply = other.getresponse()
             reply.read()
             count, right = count + 1, right and reply.status == 200
@@ -232,10 +281,16 @@ def large_tile(cases: Cases, folder: str) -> None:
         found, right = both_tiles(server, paths)
         cases.show("two of the archive, read beside each other, are the same", found == made, True)
         cases.show("and edits elsewhere are made meanwhile", right, True)
-        cases.show("they are the same after these edits", [(200, tile_of(server, path)[2]) for path in paths] == made, True)
+        cases.show(
+            "they are the same after these edits", [(200, tile_of(server, path)[2]) for path in paths] == made, True
+        )
         curl(server.url + "/features/5", "-X", "DELETE")
         changed = [(200, tile_of(server, path)[2]) for path in paths]
-        cases.show("an edit of theirs is in them", [len(old) > len(new) > 0 for (_, old), (_, new) in zip(made, changed)], [True, True])
+        cases.show(
+            "an edit of theirs is in them",
+            [len(old) > len(new) > 0 for (_, old), (_, new) in zip(made, changed)],
+            [True, True],
+        )
         with socket.create_connection(("127.0.0.1", server.port)) as asker:
             asker.sendall(f"GET {paths[0]} HTTP/1.1\r\nhost: x\r\n\r\n".encode())
             curl(server.url + "/publish", "-X", "POST")
@@ -246,7 +301,8 @@ def large_tile(cases: Cases, folder: str) -> None:
 
 
 def meanwhile(cases: Cases, folder: str) -> None:
-    """Publications that are prepared by a tile at a time, between which edits and looks are answered, and large tiles that are read by parts."""
+    """Publications that are prepared by a tile at a time, between which edits and looks are answered, and large
+    tiles that are read by parts."""
     begun(cases, folder)
     whole(cases, folder)
     written(cases, folder)
@@ -258,21 +314,40 @@ def begun(cases: Cases, folder: str) -> None:
     with Server(folder, "meanwhile", 65536) as server:
         same(cases, "4,096 points", fill(server), wanted(200, JSON, f'{{"edit":{POINTS // BATCH}}}'))
         named(server, POINTS, "before")
-        with socket.create_connection(("127.0.0.1", server.port)) as asker, socket.create_connection(("127.0.0.1", server.port)) as second:
+        with socket.create_connection(("127.0.0.1", server.port)) as asker, socket.create_connection(
+            ("127.0.0.1", server.port)
+        ) as second:
             asker.sendall(BEGIN)
             count, right = others(server, asker)
             cases.show("edits and looks are answered while a publication is prepared", (count > 1, right), (True, True))
             status, told = answer(asker)
             cases.show("its beginning is answered", (status, list(json.loads(told))), (200, ["left"]))
             archive = published(server)
-            cases.show("its archive has what was acknowledged before, and nothing later", layers(archive) & {"before", "meanwhile"}, {"before"})
+            cases.show(
+                "its archive has what was acknowledged before, and nothing later",
+                layers(archive) & {"before", "meanwhile"},
+                {"before"},
+            )
             asker.sendall(BEGIN)
             second.sendall(BEGIN)
             found = sorted([answer(asker), answer(second)])
-            cases.show("of two beginnings one is refused", ([status for status, _ in found], found[1][1]), ([200, 409], b"Busy\n"))
-            cases.show("its archive has the edits since", layers(published(server)) & {"before", "meanwhile"}, {"before", "meanwhile"})
+            cases.show(
+                "of two beginnings one is refused",
+                ([status for status, _ in found], found[1][1]),
+                ([200, 409], b"Busy\n"),
+            )
+            cases.show(
+                "its archive has the edits since",
+                layers(published(server)) & {"before", "meanwhile"},
+                {"before", "meanwhile"},
+            )
             asker.sendall(BEGIN)
-            same(cases, "a cancellation of what is prepared", curl(server.url + "/publish/cancel", "-X", "POST"), refusal(409, "Idle"))
+            same(
+                cases,
+                "a cancellation of what is prepared",
+                curl(server.url + "/publish/cancel", "-X", "POST"),
+                refusal(409, "Idle"),
+            )
             cases.show("the beginning goes on", answer(asker)[0], 200)
             curl(server.url + "/publish/cancel", "-X", "POST")
             second.sendall(BEGIN)
@@ -281,7 +356,12 @@ def begun(cases: Cases, folder: str) -> None:
             status, told = answer(asker)
             if (status, told) == (409, b"Busy\n"):
                 # (who is gone had asked first, and its publication began: it is anybody's to cancel)
-                same(cases, "a publication whose asker is gone", curl(server.url + "/publish/cancel", "-X", "POST"), wanted(204))
+                same(
+                    cases,
+                    "a publication whose asker is gone",
+                    curl(server.url + "/publish/cancel", "-X", "POST"),
+                    wanted(204),
+                )
                 asker.sendall(BEGIN)
                 status, told = answer(asker)
             cases.show("another one publishes after who asked is gone", status, 200)

@@ -1,4 +1,5 @@
-"""The part `ogc` of run.py: the OGC API Features of `vtmap wfs`, read by hand and by GDAL, and both of its services behind nginx."""
+"""The part `ogc` of run.py: the OGC API Features of `vtmap wfs`, read by hand and by GDAL, and both of its services
+behind nginx."""
 import json
 import os
 import re
@@ -57,21 +58,39 @@ def asked(url):
 def documents(cases, url):
     """What says what there is: each link leads to a document of its type."""
     first = asked(url + "/")
-    cases.show("ogc: the landing page's links", [link["rel"] for link in first["links"]], ["self", "service-desc", "conformance", "data"])
+    cases.show(
+        "ogc: the landing page's links",
+        [link["rel"] for link in first["links"]],
+        ["self", "service-desc", "conformance", "data"],
+    )
     listed = asked(url + "/collections")["collections"]
     ids = ["building.areas", "land.areas", "park.areas", "place.points", "road.lines"]
-    cases.show("ogc: a collection for each kind of a layer", [(one["id"], one["itemType"]) for one in listed], [(name, "feature") for name in ids])
-    found = [(link["href"], link["type"], field(curl(link["href"]), "content-type")) for one in [first, *listed] for link in one["links"]]
+    cases.show(
+        "ogc: a collection for each kind of a layer",
+        [(one["id"], one["itemType"]) for one in listed],
+        [(name, "feature") for name in ids],
+    )
+    found = [
+        (link["href"], link["type"], field(curl(link["href"]), "content-type"))
+        for one in [first, *listed]
+        for link in one["links"]
+    ]
     cases.show("ogc: each link has the type that it says", [row for row in found if row[1] != row[2]], [])
     west, south, east, north = listed[3]["extent"]["spatial"]["bbox"][0]
-    cases.show("ogc: the extent of the places", (7.49 < west < east < 7.52, 54.49 < south < north < 54.51), (True, True))
+    cases.show(
+        "ogc: the extent of the places", (7.49 < west < east < 7.52, 54.49 < south < north < 54.51), (True, True)
+    )
     classes = [name.rpartition("/")[2] for name in asked(url + "/conformance")["conformsTo"]]
     cases.show("ogc: what of the standard there is", classes, ["core", "oas30", "geojson", "crs"])
     api = asked(url + "/api")
     parameters = api["paths"]["/collections/building.areas/items"]["get"]["parameters"]
     shared = api["components"]["parameters"]
     named = [shared[one["$ref"].rpartition("/")[2]]["name"] if "$ref" in one else one["name"] for one in parameters]
-    cases.show("ogc: the API names the parameters", sorted(named), sorted(["bbox", "bbox-crs", "crs", "limit", "datetime", "after", "floors", "house", "f"]))
+    cases.show(
+        "ogc: the API names the parameters",
+        sorted(named),
+        sorted(["bbox", "bbox-crs", "crs", "limit", "datetime", "after", "floors", "house", "f"]),
+    )
     missing = [path for path in api["paths"] if "{" not in path and status_of(curl(url + path)) != 200]
     cases.show("ogc: each path of the API is there", (missing, len(api["paths"])), ([], 18))
     cases.show("ogc: HEAD", (status_of(curl(url + "/", "--head")), curl(url + "/", "--head")[2]), (200, b""))
@@ -80,7 +99,11 @@ def documents(cases, url):
 def pages(cases, url, server):
     """Pages, while somebody edits."""
     whole = asked(f"{url}/building.areas/items")
-    cases.show("ogc: all of a collection", (whole["numberMatched"], whole["numberReturned"], len(whole["features"])), (318, 318, 318))
+    cases.show(
+        "ogc: all of a collection",
+        (whole["numberMatched"], whole["numberReturned"], len(whole["features"])),
+        (318, 318, 318),
+    )
     ids, place, count = [], f"{url}/building.areas/items?limit=50", 0
     while place:
         page = asked(place)
@@ -88,16 +111,29 @@ def pages(cases, url, server):
         curl(f"{server}/features/{ids[count]}", "-X", "DELETE")
         count += 1
         place = next((link["href"] for link in page["links"] if link["rel"] == "next"), None)
-    cases.show("ogc: by pages each feature once, though some are deleted", (count, ids), (7, [feature["id"] for feature in whole["features"]]))
+    cases.show(
+        "ogc: by pages each feature once, though some are deleted",
+        (count, ids),
+        (7, [feature["id"] for feature in whole["features"]]),
+    )
     place = asked(f"{url}/place.points/items/452")
-    cases.show("ogc: a feature", (place["id"], place["properties"], place["geometry"]["type"]), (452, {"name": "Church"}, "Point"))
+    cases.show(
+        "ogc: a feature",
+        (place["id"], place["properties"], place["geometry"]["type"]),
+        (452, {"name": "Church"}, "Point"),
+    )
     put_at(server, 452, name="Old Church")
     cases.show("ogc: is as it is now", asked(f"{url}/place.points/items/452")["properties"], {"name": "Old Church"})
     put_at(server, 452, name="Church")
     roads = asked(f"{url}/road.lines/items")["features"]
     same = [feature_of(road) == json.loads(curl(f"{server}/features/{road['id']}")[2]) for road in roads]
     cases.show("ogc: degrees lead back to each point of the map", (len(same), all(same)), (12, True))
-    rings = [ring for area in asked(f"{url}/park.areas/items")["features"] for polygon in polygons(area["geometry"]) for ring in polygon[:1]]
+    rings = [
+        ring
+        for area in asked(f"{url}/park.areas/items")["features"]
+        for polygon in polygons(area["geometry"])
+        for ring in polygon[:1]
+    ]
     cases.show("ogc: outer rings are counterclockwise", {twice_area(ring) > 0 for ring in rings}, {True})
     cases.show("ogc: a feature that the import has cut is one", len(asked(f"{url}/land.areas/items")["features"]), 1)
 
@@ -130,14 +166,34 @@ def selections(cases, url):
         ("?f=json", PLACES),
     ]:
         cases.show(f"ogc: places{query}", names(items + query), wanted)
-    cases.show("ogc: a number", {feature["properties"]["floors"] for feature in asked(f"{url}/building.areas/items?floors=2")["features"]}, {2})
+    cases.show(
+        "ogc: a number",
+        {feature["properties"]["floors"] for feature in asked(f"{url}/building.areas/items?floors=2")["features"]},
+        {2},
+    )
 
 
 def refusals(cases, url):
     """What there isn't, and what is wrong."""
     places = "/collections/place.points"
-    missing = ["/collections/nix", "/collections/nix/items", "/nix", places + "/nix", *(f"{places}/items/{name}" for name in ("1", "x", "452/x"))]
-    queries = ["limit=0", "limit=x", "bbox=1,2,3", "bbox=1,2,3,x", "bbox=0,60,1,50", "bbox=nan,1,2,3", "nix=1", "after=-1", "datetime=now"]
+    missing = [
+        "/collections/nix",
+        "/collections/nix/items",
+        "/nix",
+        places + "/nix",
+        *(f"{places}/items/{name}" for name in ("1", "x", "452/x")),
+    ]
+    queries = [
+        "limit=0",
+        "limit=x",
+        "bbox=1,2,3",
+        "bbox=1,2,3,x",
+        "bbox=0,60,1,50",
+        "bbox=nan,1,2,3",
+        "nix=1",
+        "after=-1",
+        "datetime=now",
+    ]
     wrong = ["/?nix=1", "/collections?f=html", *(f"{places}/items?{query}" for query in queries)]
     for path, status in [*((path, 404) for path in missing), *((path, 400) for path in wrong)]:
         reply = curl(url + path)
@@ -148,7 +204,9 @@ def refusals(cases, url):
 def counted(name, layer):
     """How many features GDAL's command finds in a layer, by asking and by reading them."""
     told = subprocess.run(["ogrinfo", "-ro", "-so", name, layer], capture_output=True, text=True, timeout=100).stdout
-    read = subprocess.run(["ogrinfo", "-ro", "-q", "-geom=NO", name, layer], capture_output=True, text=True, timeout=100).stdout
+    read = subprocess.run(
+        ["ogrinfo", "-ro", "-q", "-geom=NO", name, layer], capture_output=True, text=True, timeout=100
+    ).stdout
     return [int(count) for count in re.findall("Feature Count: ([0-9]+)", told)], read.count("OGRFeature")
 
 
@@ -160,7 +218,11 @@ def by_gdal(cases, url):
     count = len(asked(f"{url}/ogc/collections/building.areas/items")["features"])
     for driver, path, prefix in (("WFS", "/wfs", "v:"), ("OAPIF", "/ogc", "")):
         name = f"{driver}:{url}{path}"
-        cases.show(f"ogc: GDAL reads {driver}", [counted(name, prefix + layer) for layer in ("building.areas", "place.points")], [([count], count), ([5], 5)])
+        cases.show(
+            f"ogc: GDAL reads {driver}",
+            [counted(name, prefix + layer) for layer in ("building.areas", "place.points")],
+            [([count], count), ([5], 5)],
+        )
         words = ["ogrinfo", "-ro", "-q", "-where", "name = 'Church'", name, prefix + "place.points"]
         told = subprocess.run(words, capture_output=True, text=True, timeout=100).stdout
         cases.show(f"ogc: GDAL selects by {driver}", (told.count("OGRFeature"), "Church" in told), (1, True))
@@ -174,12 +236,19 @@ def edited_by_gdal(cases, url, server):
     told = subprocess.run([SYSTEM_PYTHON, "-c", EDITS, f"WFS:{url}/wfs"], capture_output=True, text=True, timeout=100)
     made = json.loads(told.stdout or "null") or told.stderr
     cases.show("ogc: GDAL changes, adds and deletes by WFS", made, [0, 0, 0])
-    found = {number: feature["tags"].get("name") for number, feature in map_at(server).items() if feature["layer"] == "place"}
-    cases.show("ogc: which is on the map", sorted(found.values()), sorted([*(set(PLACES) - {"School", "Harbour"}), "Old School", "By GDAL"]))
+    found = {
+        number: feature["tags"].get("name") for number, feature in map_at(server).items() if feature["layer"] == "place"
+    }
+    cases.show(
+        "ogc: which is on the map",
+        sorted(found.values()),
+        sorted([*(set(PLACES) - {"School", "Harbour"}), "Old School", "By GDAL"]),
+    )
 
 
 def by_leaflet(cases, folder, server, gateway):
-    """The page with Leaflet, behind nginx, in Chromium. Its picture is kept in the folder that PICTURES names, if it does."""
+    """The page with Leaflet, behind nginx, in Chromium. Its picture is kept in the folder that PICTURES names, if it
+    does."""
     nginx = shutil.which("nginx", path=os.environ.get("PATH", "") + ":/usr/sbin")
     if not (nginx and shutil.which("chromium") and os.path.exists(LEAFLET)):
         cases.say("no nginx, no Chromium or no libjs-leaflet: Leaflet doesn't draw the features")
@@ -194,15 +263,30 @@ def by_leaflet(cases, folder, server, gateway):
             shutil.copy(os.path.join(LEAFLET, name), pages)
         shutil.copytree(os.path.join(LEAFLET, "images"), os.path.join(pages, "images"))
         page = browser.open(f"{front.url}/pages/features.html")
-        names = "[...document.querySelectorAll('.leaflet-control-layers-overlays label')].map(label => label.innerText.trim())"
-        wanted = [markup + " (points)", "land (areas)", "park (areas)", "road (lines)", "building (areas)", "place (points)"]
-        page.wait("document.querySelectorAll('.leaflet-control-layers-overlays label').length === 6 && document.querySelector('canvas')")
+        names = (
+            "[...document.querySelectorAll('.leaflet-control-layers-overlays label')].map(label =>"
+            " label.innerText.trim())"
+        )
+        wanted = [
+            markup + " (points)",
+            "land (areas)",
+            "park (areas)",
+            "road (lines)",
+            "building (areas)",
+            "place (points)",
+        ]
+        page.wait(
+            "document.querySelectorAll('.leaflet-control-layers-overlays label').length === 6 &&"
+            " document.querySelector('canvas')"
+        )
         cases.show("ogc: Leaflet has each collection, and a name that is markup as a text", page.value(names), wanted)
         page.wait("document.querySelector('canvas').getContext('2d').getImageData(380, 240, 1, 1).data[3] > 0")
         time.sleep(1)
         page.click(380, 250)
         told = page.wait("document.querySelector('.leaflet-popup pre')?.innerText") or ""
-        cases.show("ogc: a click shows a feature", told.split(" ")[0] in ("land", "park", "road", "building", "place"), True)
+        cases.show(
+            "ogc: a click shows a feature", told.split(" ")[0] in ("land", "park", "road", "building", "place"), True
+        )
         cases.show("ogc: and neither the page nor the browser complains", page.faults(), [])
         if os.environ.get("PICTURES"):
             time.sleep(1)
@@ -224,15 +308,34 @@ def behind_nginx(cases, folder, server, gateway):
         cases.show("nginx: the gateway names the proxy's address", gis.url.startswith(front.url + "/wfs/"), True)
         cases.show("nginx: a save", gis.save(gis.update(451, name="By nginx")), "SUCCESS")
         first = asked(f"{front.url}/ogc/")
-        cases.show("nginx: so does its other service", {link["href"].startswith(front.url + "/ogc/") for link in first["links"]}, {True})
+        cases.show(
+            "nginx: so does its other service",
+            {link["href"].startswith(front.url + "/ogc/") for link in first["links"]},
+            {True},
+        )
         cases.show("nginx: and its features", len(names(f"{front.url}/ogc/collections/place.points/items")), 5)
         for path in ("/wfs?REQUEST=GetCapabilities", "/ogc/", "/ogc/collections/place.points/items"):
-            cases.show(f"nginx: {path} isn't for another address", status_of(curl(front.url + path, "--interface", "127.0.0.2")), 403)
+            cases.show(
+                f"nginx: {path} isn't for another address",
+                status_of(curl(front.url + path, "--interface", "127.0.0.2")),
+                403,
+            )
         packed = curl(f"{front.url}/wfs?REQUEST=GetFeature&TYPENAMES=building.areas", "-H", "Accept-Encoding: gzip")
-        cases.show("nginx: features are compressed", (status_of(packed), field(packed, "content-encoding")), (200, "gzip"))
-        body = "x" * (2 ** 20)
-        cases.show("nginx: a body of 1 MB reaches the gateway", status_of(curl(gis.url, "-H", "Content-Type: text/xml", body=body)), 200)
-    curl(f"{server.url}/features/451", "-X", "PUT", body=curl(f"{server.url}/features/451")[2].decode().replace("By nginx", "Town Hall"))
+        cases.show(
+            "nginx: features are compressed", (status_of(packed), field(packed, "content-encoding")), (200, "gzip")
+        )
+        body = "x" * (2**20)
+        cases.show(
+            "nginx: a body of 1 MB reaches the gateway",
+            status_of(curl(gis.url, "-H", "Content-Type: text/xml", body=body)),
+            200,
+        )
+    curl(
+        f"{server.url}/features/451",
+        "-X",
+        "PUT",
+        body=curl(f"{server.url}/features/451")[2].decode().replace("By nginx", "Town Hall"),
+    )
     shutil.rmtree(front.folder)
 
 
@@ -245,7 +348,12 @@ def with_passwords(cases, folder, server, gateway):
     port = [("127.0.0.1:8090", f"127.0.0.1:{gateway.port}")]
     people = os.path.join(folder, "people")
     with open(people, "w", encoding="utf-8") as file:
-        file.write("ann:" + subprocess.run(["openssl", "passwd", "-apr1", "secret"], capture_output=True, text=True, check=True).stdout)
+        file.write(
+            "ann:"
+            + subprocess.run(
+                ["openssl", "passwd", "-apr1", "secret"], capture_output=True, text=True, check=True
+            ).stdout
+        )
     os.chmod(people, 0o644)
     block = [("# satisfy any;", "satisfy any;"), ("# auth_basic", "auth_basic"), ("/etc/vtserve/people", people)]
     with Nginx(nginx, folder, server, [*port, *block]) as front:
@@ -258,9 +366,18 @@ def with_passwords(cases, folder, server, gateway):
         subprocess.run(follows, check=True, capture_output=True)
         cases.show("nginx: with a name and a password", gis.save(gis.update(451, name="By Ann")), "SUCCESS")
         subprocess.run(follows, check=True, capture_output=True)
-        told = subprocess.run([*VTMAP, "log", log, "--nginx", trail, "--person", "ann"], capture_output=True, text=True).stdout.splitlines()
-        cases.show("nginx: vtmap log says who has saved", [line.partition("  ann  ")[2] for line in told],
-                   ["changed place 451 ('By Ann'): name: 'Town Hall' -> 'By Ann'"])
+        told = subprocess.run(
+            [*VTMAP, "log", log, "--nginx", trail, "--person", "ann"], capture_output=True, text=True
+        ).stdout.splitlines()
+        cases.show(
+            "nginx: vtmap log says who has saved",
+            [line.partition("  ann  ")[2] for line in told],
+            ["changed place 451 ('By Ann'): name: 'Town Hall' -> 'By Ann'"],
+        )
         _, lines = gateway.end()
-        cases.show("nginx: and so does the gateway", [line for line in lines if "ann" in line][0].startswith("saved: ann: 1 changed, edit "), True)
+        cases.show(
+            "nginx: and so does the gateway",
+            [line for line in lines if "ann" in line][0].startswith("saved: ann: 1 changed, edit "),
+            True,
+        )
     shutil.rmtree(front.folder)

@@ -1,6 +1,8 @@
-"""The part `page-files` of run.py: files that are dropped on the page, in a real Chromium through nginx with docs/nginx.conf.
+"""The part `page-files` of run.py: files that are dropped on the page, in a real Chromium through nginx with
+docs/nginx.conf.
 
-What the page makes of a file is compared with what `vtmap import` makes of it. Pictures are kept in the folder that PICTURES names, if it does.
+What the page makes of a file is compared with what `vtmap import` makes of it. Pictures are kept in the folder that
+PICTURES names, if it does.
 """
 import json
 import os
@@ -13,20 +15,59 @@ from .page_hands import Hands
 from .pages import LOSE, PAGE, REFUSE, WHILE
 from .stand import SYSTEM_PYTHON, VTMAP, Cases, Nginx, Server, curl, feature, status_of
 
-JSON_FILE = {"type": "FeatureCollection", "features": [
-    {"type": "Feature", "geometry": {"type": "Point", "coordinates": [7.5, 54.5, 3]}, "properties": {
-        "name": "A", "n": 5, "r": 0.5, "b": True, "d": "2024-01-31", "l": [1, 2], "o": {"a": 1}, "nul": None, "mix": 5, "bi": True, "small": 0.00001,
-        "whole": 5.0, "big": 9007199254740993}},
-    {"type": "Feature", "geometry": {"type": "LineString", "coordinates": [[7.5, 54.5], [7.501, 54.501]]}, "properties": {
-        "name": "B", "n": 6, "r": 2, "b": False, "l": [3], "mix": "x", "bi": 3, "late": 1, "x": ""}},
-    {"type": "Feature", "geometry": {"type": "Polygon", "coordinates": [[[7.5, 54.5], [7.502, 54.5], [7.502, 54.502], [7.5, 54.5]]]},
-     "properties": {"name": "C"}},
-    {"type": "Feature", "geometry": {"type": "MultiPoint", "coordinates": [[7.51, 54.5], [7.52, 54.5]]}, "properties": {"name": "D"}},
-    {"type": "Feature", "geometry": None, "properties": {"name": "E"}},
-    {"type": "Feature", "geometry": {"type": "GeometryCollection", "geometries": [{"type": "Point", "coordinates": [7, 54]}]}, "properties": {"name": "F"}},
-    {"type": "Feature", "geometry": {"type": "Point", "coordinates": [7, 89]}, "properties": {"name": "G"}},
-]}
-TABLE = 'nr;name;lon;lat;h\n1;"Well; ""old""";7,495;54,501;\n2;Pump;7.505;54.502;3\n3;None;;;\n4;Bad;1.000,5;54;x\n5;caf\xe9;7.5;54.5;1\n'
+JSON_FILE = {
+    "type": "FeatureCollection",
+    "features": [
+        {
+            "type": "Feature",
+            "geometry": {"type": "Point", "coordinates": [7.5, 54.5, 3]},
+            "properties": {
+                "name": "A",
+                "n": 5,
+                "r": 0.5,
+                "b": True,
+                "d": "2024-01-31",
+                "l": [1, 2],
+                "o": {"a": 1},
+                "nul": None,
+                "mix": 5,
+                "bi": True,
+                "small": 0.00001,
+                "whole": 5.0,
+                "big": 9007199254740993,
+            },
+        },
+        {
+            "type": "Feature",
+            "geometry": {"type": "LineString", "coordinates": [[7.5, 54.5], [7.501, 54.501]]},
+            "properties": {"name": "B", "n": 6, "r": 2, "b": False, "l": [3], "mix": "x", "bi": 3, "late": 1, "x": ""},
+        },
+        {
+            "type": "Feature",
+            "geometry": {
+                "type": "Polygon",
+                "coordinates": [[[7.5, 54.5], [7.502, 54.5], [7.502, 54.502], [7.5, 54.5]]],
+            },
+            "properties": {"name": "C"},
+        },
+        {
+            "type": "Feature",
+            "geometry": {"type": "MultiPoint", "coordinates": [[7.51, 54.5], [7.52, 54.5]]},
+            "properties": {"name": "D"},
+        },
+        {"type": "Feature", "geometry": None, "properties": {"name": "E"}},
+        {
+            "type": "Feature",
+            "geometry": {"type": "GeometryCollection", "geometries": [{"type": "Point", "coordinates": [7, 54]}]},
+            "properties": {"name": "F"},
+        },
+        {"type": "Feature", "geometry": {"type": "Point", "coordinates": [7, 89]}, "properties": {"name": "G"}},
+    ],
+}
+TABLE = (
+    'nr;name;lon;lat;h\n1;"Well;'
+    ' ""old""";7,495;54,501;\n2;Pump;7.505;54.502;3\n3;None;;;\n4;Bad;1.000,5;54;x\n5;caf\xe9;7.5;54.5;1\n'
+)
 TRACK = """<?xml version="1.0"?><gpx version="1.1" creator="x" xmlns="http://www.topografix.com/GPX/1/1"><metadata><name>m</name></metadata>
 <wpt lat="54.5" lon="7.5"><ele>3.5</ele><time>2024-01-31T10:00:00Z</time><name>W &amp; co</name><cmt>c</cmt><desc>d</desc>
 <link href="http://x"><text>t</text></link><sym>Flag</sym><type>ty</type></wpt>
@@ -42,7 +83,8 @@ PLACES = """<?xml version="1.0" encoding="UTF-8"?><kml xmlns="http://www.opengis
 </innerBoundaryIs></Polygon></Placemark>
 <Placemark><name>M</name><MultiGeometry><Point><coordinates>7.5,54.51</coordinates></Point><Point><coordinates>7.51,54.51</coordinates></Point></MultiGeometry>
 </Placemark></Document></kml>"""
-# Layers of GPX that the page doesn't read (each point of a line), and tags of KML that GDAL's driver adds to each feature.
+# Layers of GPX that the page doesn't read (each point of a line), and tags of KML that GDAL's driver adds to each
+# feature.
 NOT_READ, ADDED = ("route_points", "track_points"), ("tessellate", "extrude", "visibility")
 FAULT = "document.getElementById('told').className === 'fault' && document.getElementById('told').textContent"
 
@@ -83,7 +125,13 @@ class Files(Hands):
 
     def is_shown(self, text):
         """Waits for the heading of the panel."""
-        self.one.wait(f"!document.getElementById('panel').hidden && document.querySelector('#panel h2').innerText === {json.dumps(text)}", 15)
+        self.one.wait(
+            (
+                "!document.getElementById('panel').hidden && document.querySelector('#panel h2').innerText ==="
+                f" {json.dumps(text)}"
+            ),
+            15,
+        )
         return self.one.text("#panel h2")
 
     def features(self, url=None):
@@ -104,7 +152,12 @@ class Files(Hands):
 
     def compared(self):
         """Each kind of file: shown, sent, the same features as the import makes, and taken back."""
-        for name, content, count in (("a.geojson", json.dumps(JSON_FILE), 4), ("b.csv", TABLE.encode("cp1252"), 3), ("d.gpx", TRACK, 3), ("e.kml", PLACES, 4)):
+        for name, content, count in (
+            ("a.geojson", json.dumps(JSON_FILE), 4),
+            ("b.csv", TABLE.encode("cp1252"), 3),
+            ("d.gpx", TRACK, 3),
+            ("e.kml", PLACES, 4),
+        ):
             path = self.file(name, content)
             before = self.edits_and_features()
             self.drop(path)
@@ -115,15 +168,27 @@ class Files(Hands):
             time.sleep(0.5)
             self.keep(self.one, f"page-file-{name.split('.')[-1]}.png")
             self.one.press(f"Send {count}")
-            self.show(f"{name} is sent", self.is_shown(f"{name}: {count} features sent"), f"{name}: {count} features sent")
+            self.show(
+                f"{name} is sent", self.is_shown(f"{name}: {count} features sent"), f"{name}: {count} features sent"
+            )
             self.show(f"{name} by one edit", self.edits_and_features(), (before[0] + 1, before[1] + count))
             wanted, told = self.imported(path, name)
-            wanted = [(layer, {key: value for key, value in tags.items() if key not in ADDED}, shape, zooms) for layer, tags, shape, zooms in wanted
-                      if layer not in NOT_READ]
+            wanted = [
+                (layer, {key: value for key, value in tags.items() if key not in ADDED}, shape, zooms)
+                for layer, tags, shape, zooms in wanted
+                if layer not in NOT_READ
+            ]
             found = self.features()
-            self.show(f"{name} has the layers, tags and zooms that the import gives it", [(row[0], row[1], row[3]) for row in found],
-                      [(row[0], row[1], row[3]) for row in wanted])
-            self.show(f"{name} has its shapes, within a unit of the world", [differs(one[2], other[2]) for one, other in zip(found, wanted)], [0] * count)
+            self.show(
+                f"{name} has the layers, tags and zooms that the import gives it",
+                [(row[0], row[1], row[3]) for row in found],
+                [(row[0], row[1], row[3]) for row in wanted],
+            )
+            self.show(
+                f"{name} has its shapes, within a unit of the world",
+                [differs(one[2], other[2]) for one, other in zip(found, wanted)],
+                [0] * count,
+            )
             told = told.replace("a list is no value", "a list or an object is no value")
             said = [note for note in notes if self.words_of(note) not in told]
             self.show(f"of {name} the page says nothing that the import doesn't", said, [])
@@ -149,7 +214,11 @@ class Files(Hands):
         self.is_shown("trees.csv: 150 features sent")
         edits, count = self.edits_and_features()
         self.show("150 features are three edits", (edits - before[0], count - before[1]), (3, 150))
-        self.show("with the layer and the zooms of the form", {(row[0], row[3]) for row in self.features()}, {("tree", (12, 14))})
+        self.show(
+            "with the layer and the zooms of the form",
+            {(row[0], row[3]) for row in self.features()},
+            {("tree", (12, 14))},
+        )
         self.show("which the panel tells", f"edits {before[0] + 1}–{edits}" in self.one.text("#panel"), True)
         first = json.loads(curl(f"{self.server.url}/admin/features/from/0")[2])
         body = {**first["feature"], "tags": {"name": "kept"}}
@@ -163,8 +232,14 @@ class Files(Hands):
         """Features that the server refuses are named with its words, and the rest is sent; a large one isn't sent."""
         def row(name, size=0.0):
             ring = [[7.5, 54.5], [7.5 + size, 54.5], [7.5 + size, 54.5 + size], [7.5, 54.5]]
-            return {"type": "Feature", "properties": {"name": name}, "geometry": {"type": "Polygon", "coordinates": [ring]} if size else
-                    {"type": "Point", "coordinates": [7.5, 54.5]}}
+            return {
+                "type": "Feature",
+                "properties": {"name": name},
+                "geometry": {"type": "Polygon", "coordinates": [ring]}
+                if size
+                else {"type": "Point", "coordinates": [7.5, 54.5]},
+            }
+
         rows = [row(f"{at}" if at not in (3, 40) else "x" * 1100) for at in range(70)] + [row("large", 0.5)]
         self.drop(self.file("some.json", json.dumps({"type": "FeatureCollection", "features": rows})))
         self.is_shown("some.json: 71 features")
@@ -189,7 +264,11 @@ class Files(Hands):
             return asked(url, words); }; })()""" % (free + 1, json.dumps(feature("place", tags={"name": "theirs"}))))
         self.one.press("Send 2")
         self.is_shown("two.csv: 2 features sent")
-        self.show("ids that are taken meanwhile are left to who took them", sorted(row[1]["name"] for row in self.features()), ["one", "theirs", "two"])
+        self.show(
+            "ids that are taken meanwhile are left to who took them",
+            sorted(row[1]["name"] for row in self.features()),
+            ["one", "theirs", "two"],
+        )
         self.one.press("Take it all back")
         self.told("2 features taken back")
         curl(f"{self.server.url}/features/{free + 1}", "-X", "DELETE")
@@ -203,20 +282,35 @@ class Files(Hands):
         self.one.value(LOSE)
         told = self.refused(self.one, "Send 100")
         time.sleep(WHILE)
-        self.show("no reply", told, "the server doesn't answer: the edit may be made or not. Save again: it isn't made twice")
+        self.show(
+            "no reply", told, "the server doesn't answer: the edit may be made or not. Save again: it isn't made twice"
+        )
         self.one.value(REFUSE % (1, 1))
         self.refused(self.one, "Send 100")
         self.one.press("Send 100")
         self.is_shown("lost.csv: 100 features sent")
-        self.show("each feature is made once", (self.edits_and_features()[1] - before[1], len(self.features())), (100, before[1] + 100))
+        self.show(
+            "each feature is made once",
+            (self.edits_and_features()[1] - before[1], len(self.features())),
+            (100, before[1] + 100),
+        )
         self.one.press("Take it all back")
         self.told("100 features taken back")
 
     def not_taken(self):
         """Files that the page can't read, and one that is left."""
         for name, content, why in (
-            ("x.bin", b"\x00\x01\x02", "it has no columns lon and lat of longitudes and latitudes (it has \x00\x01\x02); vtmap import reads others by --x and --y"),
-            ("x.json", "{", "it is no GeoJSON"), ("x.xml", "<a/>", "the page reads GeoJSON, CSV, GPX and KML; vtmap import reads more")):
+            (
+                "x.bin",
+                b"\x00\x01\x02",
+                (
+                    "it has no columns lon and lat of longitudes and latitudes (it has \x00\x01\x02); vtmap import"
+                    " reads others by --x and --y"
+                ),
+            ),
+            ("x.json", "{", "it is no GeoJSON"),
+            ("x.xml", "<a/>", "the page reads GeoJSON, CSV, GPX and KML; vtmap import reads more"),
+        ):
             self.one.value("document.getElementById('told').textContent = ''")
             self.drop(self.file(name, content))
             self.show(f"{name} is refused", self.one.wait(FAULT, 8), why)
@@ -225,7 +319,11 @@ class Files(Hands):
         self.drop(self.file("script.gpx", script))
         self.is_shown("script.gpx: 1 feature")
         self.one.key("Escape")
-        self.show("Escape leaves a file", (self.one.value("document.getElementById('panel').hidden"), self.edits_and_features()), (True, before))
+        self.show(
+            "Escape leaves a file",
+            (self.one.value("document.getElementById('panel').hidden"), self.edits_and_features()),
+            (True, before),
+        )
 
     def viewers(self, nginx):
         """Who may not edit drops nothing."""
@@ -237,7 +335,11 @@ class Files(Hands):
             self.one.wait("document.getElementById('told').textContent")
             self.one.value("document.getElementById('told').textContent = ''")
             self.drop(os.path.join(self.folder, "two.csv"))
-            self.show("who may not edit drops nothing", self.one.wait(FAULT, 8), "view only: this machine may not edit the map")
+            self.show(
+                "who may not edit drops nothing",
+                self.one.wait(FAULT, 8),
+                "view only: this machine may not edit the map",
+            )
             self.one = here
 
 
@@ -246,7 +348,11 @@ def differs(one, other):
     if isinstance(one, dict):
         return differs(list(one.items()), list(other.items()))
     if isinstance(one, (list, tuple)):
-        return max([differs(a, b) for a, b in zip(one, other)], default=0) if len(one) == len(other) else "of another length"
+        return (
+            max([differs(a, b) for a, b in zip(one, other)], default=0)
+            if len(one) == len(other)
+            else "of another length"
+        )
     return 0 if one == other or isinstance(one, int) and abs(one - other) <= 1 else "differs"
 
 

@@ -1,8 +1,9 @@
 """The part `page-hands` of run.py: the page for hands and eyes, in a real Chromium through nginx with docs/nginx.conf.
 
-All that the mouse does is done by keys alone, and what a screen reader reads is looked at in Chromium's accessibility tree. In each state of the page
-texts have the contrast of WCAG 2.2 AA (1.4.3), fields too (1.4.11), and controls the size (2.5.8; 44 pixels on a telephone). A telephone edits by
-touch, and shows where it is. The page's language is the browser's, and what is saved unchanged makes no edit. Pictures are kept in the folder that
+All that the mouse does is done by keys alone, and what a screen reader reads is looked at in Chromium's
+accessibility tree. In each state of the page texts have the contrast of WCAG 2.2 AA (1.4.3), fields too (1.4.11),
+and controls the size (2.5.8; 44 pixels on a telephone). A telephone edits by touch, and shows where it is. The
+page's language is the browser's, and what is saved unchanged makes no edit. Pictures are kept in the folder that
 PICTURES names, if it does.
 """
 import json
@@ -28,10 +29,28 @@ HEARD = """(() => {
 FOCUSED = "(each => each.ariaLabel ?? each.labels?.[0]?.innerText ?? each.innerText)(document.activeElement)"
 IS_SEEN = "document.activeElement.matches(':focus-visible') && getComputedStyle(document.activeElement).outlineStyle"
 # Roles of what a person works with: each needs a name.
-CONTROLS = {"button", "link", "textbox", "searchbox", "checkbox", "radio", "combobox", "listbox", "spinbutton", "switch", "slider", "application",
-            "DisclosureTriangle", "form", "complementary", "table", "image", "img"}
-# What a page mustn't have: an id twice, an order of its own for Tab, a field or a button without a name, an empty heading, a heading of a column that
-# isn't said to be one.
+CONTROLS = {
+    "button",
+    "link",
+    "textbox",
+    "searchbox",
+    "checkbox",
+    "radio",
+    "combobox",
+    "listbox",
+    "spinbutton",
+    "switch",
+    "slider",
+    "application",
+    "DisclosureTriangle",
+    "form",
+    "complementary",
+    "table",
+    "image",
+    "img",
+}
+# What a page mustn't have: an id twice, an order of its own for Tab, a field or a button without a name, an empty
+# heading, a heading of a column that isn't said to be one.
 WRONG = """(() => {
     const all = [...document.querySelectorAll("*")], ids = all.map(each => each.id).filter(Boolean);
     return [...ids.filter((id, at) => ids.indexOf(id) < at), ...all.filter(each => each.tabIndex > 0 || each.matches("h2:empty, th:not([scope])"))
@@ -39,8 +58,8 @@ WRONG = """(() => {
 })()"""
 
 
-# Texts whose contrast with what is below them is below 4.5, and fields whose border has less than 3 with what is around it. What lets the map show
-# through is taken over black and over white.
+# Texts whose contrast with what is below them is below 4.5, and fields whose border has less than 3 with what is around
+# it. What lets the map show through is taken over black and over white.
 DIM = """(() => {
     const parts = colour => colour.match(/[\\d.]+/g).map(Number), over = ([r, g, b, a = 1], below) => [r, g, b].map((part, at) => part * a + below[at] * (1 - a));
     const linear = part => part / 255 <= 0.04045 ? part / 255 / 12.92 : ((part / 255 + 0.055) / 1.055) ** 2.4;
@@ -120,7 +139,9 @@ class Hands(Tools):
 
     def heading(self, text):
         """Sees that the panel opens with a heading, and has the focus."""
-        self.one.wait(f"document.querySelector('#panel h2')?.innerText === {text!r} && !document.getElementById('panel').hidden")
+        self.one.wait(
+            f"document.querySelector('#panel h2')?.innerText === {text!r} && !document.getElementById('panel').hidden"
+        )
         self.show(f"the panel with {text} has the focus", self.one.value(FOCUSED), text)
         self.tree(text)
 
@@ -129,7 +150,11 @@ class Hands(Tools):
         self.one.wait(f"document.getElementById('told').textContent === {text!r}", 8)
         nodes = self.nodes()
         at = {node["nodeId"]: node for node in nodes}
-        said = ["".join(self.name(at[child]) for child in node.get("childIds", [])) for node in nodes if self.role(node) == "status"]
+        said = [
+            "".join(self.name(at[child]) for child in node.get("childIds", []))
+            for node in nodes
+            if self.role(node) == "status"
+        ]
         self.show(f"a screen reader says: {text}", said, [text])
 
     def finds(self, text, heading):
@@ -153,7 +178,11 @@ class Hands(Tools):
     def tree(self, state):
         """Sees that each control has a name, and that nothing is wrong with the page as a document."""
         controls = [node for node in self.nodes() if self.role(node) in CONTROLS]
-        self.show(f"{state}: each control has a name", [node for node in controls if not self.name(node).strip() and self.role(node) not in ("table", "form")], [])
+        self.show(
+            f"{state}: each control has a name",
+            [node for node in controls if not self.name(node).strip() and self.role(node) not in ("table", "form")],
+            [],
+        )
         self.show(f"{state}: there are controls", len(controls) > 8, True)
         self.show(f"{state}: the document is sound", self.one.value(WRONG), [])
         self.seen(state)
@@ -161,13 +190,20 @@ class Hands(Tools):
     def seen(self, state):
         """Sees that what is shown has the contrast and the sizes that it needs."""
         self.show(f"{state}: texts and fields have contrast", self.one.value(DIM), [])
-        self.show(f"{state}: no control is smaller than {self.least} pixels", self.one.value(SMALL % (self.least, self.least)), [])
+        self.show(
+            f"{state}: no control is smaller than {self.least} pixels",
+            self.one.value(SMALL % (self.least, self.least)),
+            [],
+        )
 
     def find_and_edit(self):
         """A feature is found, changed and saved."""
         self.tree("the map")
-        live = [[entry["value"]["value"] for entry in node.get("properties", []) if entry["name"] == "live"] for node in self.nodes()
-                if self.role(node) == "status"]
+        live = [
+            [entry["value"]["value"] for entry in node.get("properties", []) if entry["name"] == "live"]
+            for node in self.nodes()
+            if self.role(node) == "status"
+        ]
         self.show("what the foot says is read when it changes", live, [["polite"]])
         self.finds("garden", "parcel 1")
         self.presses("Edit")
@@ -262,8 +298,11 @@ class Hands(Tools):
         self.presses("Save")
         self.one.wait("document.getElementById('panel').hidden")
         after = self.ring(3)
-        self.show("the corner is where the arrows moved it, and no other one", ([round((b - a) / PIXEL) for a, b in zip(before[0], after[0])], after[1:]),
-                  ([-128, 0], before[1:]))
+        self.show(
+            "the corner is where the arrows moved it, and no other one",
+            ([round((b - a) / PIXEL) for a, b in zip(before[0], after[0])], after[1:]),
+            ([-128, 0], before[1:]),
+        )
 
     def draws(self):
         """A line is drawn, with a point too many that is taken back."""
@@ -281,7 +320,11 @@ class Hands(Tools):
         self.one.wait("document.getElementById('panel').hidden")
         number = int(self.one.text("#told").split()[1])
         (line,) = self.get(number)["geometry"]["lines"]
-        self.show("a line is drawn by keys", ([round((b - a) / PIXEL) for a, b in zip(*line)], len(line), middle != ""), ([64, 0], 2, True))
+        self.show(
+            "a line is drawn by keys",
+            ([round((b - a) / PIXEL) for a, b in zip(*line)], len(line), middle != ""),
+            ([64, 0], 2, True),
+        )
         curl(f"{self.server.url}/features/{number}", "-X", "DELETE")
 
     def chooses(self):
@@ -291,11 +334,17 @@ class Hands(Tools):
         self.heading("Edit valve 12")
         self.types("value", "My valve")
         before = self.get(12)
-        curl(f"{self.server.url}/features/12", "-X", "PUT", body=json.dumps({**before, "tags": {"name": "Their valve"}}))
+        curl(
+            f"{self.server.url}/features/12", "-X", "PUT", body=json.dumps({**before, "tags": {"name": "Their valve"}})
+        )
         self.presses("Save")
         self.heading("Changed by two: valve 12")
         self.told("Somebody else has changed this feature meanwhile.")
-        self.show("Tab reaches a choice", self.tab_to("tag name, on the map (blue): Their valve"), "tag name, on the map (blue): Their valve")
+        self.show(
+            "Tab reaches a choice",
+            self.tab_to("tag name, on the map (blue): Their valve"),
+            "tag name, on the map (blue): Their valve",
+        )
         self.one.key("ArrowRight")
         self.presses("Save what is chosen")
         self.one.wait("document.getElementById('panel').hidden")
@@ -305,7 +354,8 @@ class Hands(Tools):
     # ---- by fingers
 
     def phone(self):
-        """A telephone: what is needed is in reach, a corner is removed and put back by touch, and the map goes where the person is."""
+        """A telephone: what is needed is in reach, a corner is removed and put back by touch, and the map goes where
+        the person is."""
         self.one = self.opened(OPENED)
         self.one.ask("Emulation.setDeviceMetricsOverride", width=390, height=760, deviceScaleFactor=1, mobile=True)
         self.one.ask("Emulation.setTouchEmulationEnabled", enabled=True, maxTouchPoints=2)
@@ -331,7 +381,11 @@ class Hands(Tools):
         time.sleep(0.3)
         self.keep(self.one, "phone-form.png")
         self.one.press("Remove point")
-        self.show("a corner is touched and removed", self.one.wait("document.getElementById('told').textContent.startsWith('the point is removed')"), True)
+        self.show(
+            "a corner is touched and removed",
+            self.one.wait("document.getElementById('told').textContent.startsWith('the point is removed')"),
+            True,
+        )
         self.one.press("Undo")
         self.show("and put back", self.one.wait("document.getElementById('told').textContent === 'taken back'"), True)
         self.one.press("Save")
@@ -344,7 +398,11 @@ class Hands(Tools):
         self.keep(self.one, "phone-drawing.png")
         self.one.press("Done")
         self.one.wait("document.querySelector('#panel form')")
-        self.show("a line is drawn by touch", self.one.wait("document.querySelector('#panel .hint').textContent.startsWith('1 line, 2 points')"), True)
+        self.show(
+            "a line is drawn by touch",
+            self.one.wait("document.querySelector('#panel .hint').textContent.startsWith('1 line, 2 points')"),
+            True,
+        )
         self.one.press("Cancel")
         self.here()
         self.least = 24
@@ -361,12 +419,18 @@ class Hands(Tools):
         """The map goes where the telephone is, if the person lets the browser tell it."""
         asks = "document.getElementById('here').click()"
         for allowed in ("denied", "granted"):
-            self.one.browser.ask("Browser.setPermission", permission={"name": "geolocation"}, setting=allowed, origin=self.front.url)
+            self.one.browser.ask(
+                "Browser.setPermission", permission={"name": "geolocation"}, setting=allowed, origin=self.front.url
+            )
             self.one.ask("Emulation.setGeolocationOverride", latitude=54.501, longitude=7.502, accuracy=12)
             self.one.value("document.getElementById('told').textContent = ''")
             self.one.value(asks)
             self.one.wait("document.getElementById('told').textContent", 25)
-            wanted = "here, within 12 metres" if allowed == "granted" else "the browser doesn't tell the page where you are: allow it in its settings"
+            wanted = (
+                "here, within 12 metres"
+                if allowed == "granted"
+                else "the browser doesn't tell the page where you are: allow it in its settings"
+            )
             self.show(f"where the telephone is, {allowed}", self.one.text("#told"), wanted)
         _, latitude, longitude = (float(part) for part in self.one.value("location.hash.slice(1)").split("/"))
         self.show("the map is there", (round(latitude, 4), round(longitude, 4)), (54.501, 7.502))
@@ -380,8 +444,11 @@ class Hands(Tools):
         edits = self.edits_and_features()[0]
         self.form(1)
         self.one.press("Save")
-        self.show("a feature that is saved as it was makes no edit", (self.saved(self.one), self.edits_and_features()[0]),
-                  ("parcel 1 is as it was: nothing was saved", edits))
+        self.show(
+            "a feature that is saved as it was makes no edit",
+            (self.saved(self.one), self.edits_and_features()[0]),
+            ("parcel 1 is as it was: nothing was saved", edits),
+        )
         self.form(1)
         self.write(self.one, "use", "orchard")
         self.show("a change does", self.edited(), "feature 1 saved, edit K")
@@ -398,12 +465,22 @@ class Hands(Tools):
 
     def german(self):
         """The page in a browser that asks for German: no English text of its own is left in what it shows."""
-        with Browser(os.path.join(self.folder, "german"), WIDE, HIGH, ["--lang=de-DE", "--accept-lang=de-DE"]) as browser:
+        with Browser(
+            os.path.join(self.folder, "german"), WIDE, HIGH, ["--lang=de-DE", "--accept-lang=de-DE"]
+        ) as browser:
             english, self.one, here = self.english(), browser.open(f"{self.front.url}/pages/{OPENED}"), self.one
             self.one.wait("document.getElementById('told').textContent")
             self.drawn(self.one)
-            self.show("a German browser has the page in German", (self.one.value("[document.documentElement.lang, document.title]"), self.one.text("#told")),
-                      (["de", "Karte"], f"6 Objekte, Änderung {self.edits_and_features()[0]}".replace("6 ", f"{self.edits_and_features()[1]} ")))
+            self.show(
+                "a German browser has the page in German",
+                (self.one.value("[document.documentElement.lang, document.title]"), self.one.text("#told")),
+                (
+                    ["de", "Karte"],
+                    f"6 Objekte, Änderung {self.edits_and_features()[0]}".replace(
+                        "6 ", f"{self.edits_and_features()[1]} "
+                    ),
+                ),
+            )
             seen = []
             for step in self.german_steps():
                 seen.append(step)
@@ -447,7 +524,12 @@ class Hands(Tools):
         yield "a refusal"
         self.one.type("#panel form input[aria-label='letzte Zoomstufe']", "18")
         before = self.get(2)
-        curl(f"{self.server.url}/features/2", "-X", "PUT", body=re.sub("Jones", "Theirs", feature("parcel", 14, 18, FEATURES[2][1], before["tags"])))
+        curl(
+            f"{self.server.url}/features/2",
+            "-X",
+            "PUT",
+            body=re.sub("Jones", "Theirs", feature("parcel", 14, 18, FEATURES[2][1], before["tags"])),
+        )
         self.one.type("#panel form tbody tr:last-child [aria-label=Wert]", "Wiese")
         self.one.press("Speichern")
         self.one.wait("document.querySelector('#panel .differs')")
@@ -464,7 +546,9 @@ def page_hands(cases: Cases, folder: str) -> None:
         return
     folder = os.path.join(folder, "page-hands")
     os.mkdir(folder)
-    with Server(folder, "parcels", sectors=16384, more=["--admin", "--etags"]) as server, Nginx(nginx, folder, server) as front:
+    with Server(folder, "parcels", sectors=16384, more=["--admin", "--etags"]) as server, Nginx(
+        nginx, folder, server
+    ) as front:
         shutil.copytree(PAGE, os.path.join(front.folder, "pages"))
         for number, (layer, geometry, tags) in FEATURES.items():
             reply = curl(f"{server.url}/features/{number}", "-X", "PUT", body=feature(layer, 14, 18, geometry, tags))

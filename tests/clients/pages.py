@@ -1,8 +1,10 @@
-"""The part `page` of run.py: a real Chromium with the page of web/, by mouse and keyboard, through nginx with docs/nginx.conf.
+"""The part `page` of run.py: a real Chromium with the page of web/, by mouse and keyboard, through nginx with
+docs/nginx.conf.
 
-Two people edit one feature, a new feature's id is taken by somebody else, saves are refused and replies are lost, the server is away when
-somebody saves or opens the page, a large feature is one, a telephone shows the page, a machine that may not edit sees the map, and people log
-in. Pictures are kept in the folder that PICTURES names, if it does.
+Two people edit one feature, a new feature's id is taken by somebody else, saves are refused and replies are lost,
+the server is away when somebody saves or opens the page, a large feature is one, a telephone shows the page, a
+machine that may not edit sees the map, and people log in. Pictures are kept in the folder that PICTURES names, if it
+does.
 """
 import json
 import os
@@ -32,8 +34,8 @@ RED = """(() => {
     const canvas = document.getElementById("map"), {data} = canvas.getContext("2d").getImageData(%d, %d, 8, 8);
     return [...data.keys()].filter(at => at %% 4 === 0 && data[at] === 0xb0 && data[at + 1] === 0x3a && data[at + 2] === 0x2e).length;
 })()"""
-# Of the POSTs of a page one is made, and neither it nor anything else gets a reply for a while; or some pass, and then nginx answers so many, since
-# the server doesn't run.
+# Of the POSTs of a page one is made, and neither it nor anything else gets a reply for a while; or some pass, and then
+# nginx answers so many, since the server doesn't run.
 WHILE = 0.5
 LOSE = """(() => { const asked = window.fetch; let lost = null; window.fetch = async (url, words) => {
     const reply = await asked(url, words);
@@ -46,8 +48,11 @@ LAYER = "document.querySelector('#panel form input[aria-label=layer]').value"
 AWAY = "the server doesn't run, or starts just now: try again, and if that doesn't help tell the administrator (502)"
 UNKNOWN = "the server doesn't answer: the edit may be made or not. Save again: it isn't made twice"
 # Ids of pieces after the first one, and a place without other features.
-PIECE, SEA = 2 ** 40, (54.6, 7.6)
-HIDE = "document.head.append(Object.assign(document.createElement('style'), {textContent: 'nav, details, aside, footer { visibility: hidden }'}))"
+PIECE, SEA = 2**40, (54.6, 7.6)
+HIDE = (
+    "document.head.append(Object.assign(document.createElement('style'), {textContent: 'nav, details, aside, footer {"
+    " visibility: hidden }'}))"
+)
 
 
 def page(cases: Cases, folder: str) -> None:
@@ -63,9 +68,16 @@ def page(cases: Cases, folder: str) -> None:
     with Server(folder, "town", sectors=16384, more=["--admin"]) as server, Nginx(nginx, folder, server) as front:
         shutil.copytree(PAGE, os.path.join(front.folder, "pages"))
         told = town(folder, front.url)
-        cases.show("page: the import says where to look", re.findall(r"look at it: (\S+/pages/#)[0-9.]+/54.50\d+/7.50\d+", told), [f"{front.url}/pages/#"])
+        cases.show(
+            "page: the import says where to look",
+            re.findall(r"look at it: (\S+/pages/#)[0-9.]+/54.50\d+/7.50\d+", told),
+            [f"{front.url}/pages/#"],
+        )
         maplibre(cases, folder, front)
-        door = [(status_of(reply), field(reply, "location")) for reply in (curl(front.url + path) for path in ("/", "/pages"))]
+        door = [
+            (status_of(reply), field(reply, "location"))
+            for reply in (curl(front.url + path) for path in ("/", "/pages"))
+        ]
         cases.show("page: the address alone leads to it", door, [(302, "/pages/")] * 2)
         with Browser(os.path.join(folder, "profile"), WIDE, HIGH) as browser:
             People(cases, browser, server, front, folder).all(nginx)
@@ -83,7 +95,8 @@ def town(folder, url):
 
 
 def unexpected(front):
-    """The lines of nginx's log of errors that aren't about a server that doesn't run, or an address that may not edit."""
+    """The lines of nginx's log of errors that aren't about a server that doesn't run, or an address that may not
+    edit."""
     known = ["Connection refused", "access forbidden", "prematurely closed", "Connection reset by peer"]
     return [line for line in front.errors() if not any(word in line for word in known)]
 
@@ -131,11 +144,15 @@ class People:
         if kept:
             path = os.path.join(kept, name)
             made.picture(path)
-            script = "import sys; from PIL import Image; Image.open(sys.argv[1]).convert('RGB').quantize(128, dither=0).save(sys.argv[1], optimize=True)"
+            script = (
+                "import sys; from PIL import Image; Image.open(sys.argv[1]).convert('RGB').quantize(128,"
+                " dither=0).save(sys.argv[1], optimize=True)"
+            )
             subprocess.run([SYSTEM_PYTHON, "-c", script, path], check=True)
 
     def edit(self, made, number):
-        """Opens the form of a point. A click at the same place as before selects what lies below, so it may take more than one."""
+        """Opens the form of a point. A click at the same place as before selects what lies below, so it may take
+        more than one."""
         place = self.place(made, number)
         for _ in range(5):
             made.click(*place)
@@ -197,12 +214,18 @@ class People:
         truth, drawn = os.path.join(self.folder, "truth.png"), os.path.join(self.folder, "drawn.png")
         self.one.picture(drawn)
         draw_truth(self.server.url, truth)
-        self.show("it draws land where the reader of examples does, but for 2 % of the pixels", water_differs(truth, drawn), Share(0.02))
+        self.show(
+            "it draws land where the reader of examples does, but for 2 % of the pixels",
+            water_differs(truth, drawn),
+            Share(0.02),
+        )
         self.one = self.opened("#14.2/54.5/7.504")
         self.one.press("Layers")
         (ring,), = self.get(119)["geometry"]["polygons"]
         self.one.click(*self.one.value(PLACE % tuple(sum(part) / len(ring) for part in zip(*ring))))
-        self.show("a click in an area selects it", self.one.text("#panel").split("\n")[:2], ["park 119", "name\tMeadow"])
+        self.show(
+            "a click in an area selects it", self.one.text("#panel").split("\n")[:2], ["park 119", "name\tMeadow"]
+        )
         time.sleep(0.3)
         self.keep(self.one, "town-page.png")
         self.one.press("Layers")
@@ -211,7 +234,11 @@ class People:
         self.one.click(*self.place(self.one, 451))
         self.show("a click shows the tags", self.one.text("#panel").split("\n")[:2], ["place 451", "name\tTown Hall"])
         self.one.press("Layers")
-        self.show("the legend has the layers of people", self.one.text("#legend").split(), ["Layers", "building", "land", "park", "place", "road"])
+        self.show(
+            "the legend has the layers of people",
+            self.one.text("#legend").split(),
+            ["Layers", "building", "land", "park", "place", "road"],
+        )
         self.one.press("Layers")
 
     def edits(self):
@@ -226,14 +253,21 @@ class People:
         self.show("an edit is saved", re.sub(r"\d+$", "K", self.saved(self.one)), "feature 451 saved, edit K")
         after = self.get(451)
         self.show("with its tags", after["tags"], {"name": "Old Town Hall"})
-        moved = [round((b - a) * 512 * 2 ** 16 / WORLD) for a, b in zip(before["geometry"]["points"][0], after["geometry"]["points"][0])]
+        moved = [
+            round((b - a) * 512 * 2**16 / WORLD)
+            for a, b in zip(before["geometry"]["points"][0], after["geometry"]["points"][0])
+        ]
         self.show("and its shape", moved, [-60, -40])
         seen = self.one.wait(RED % (x - 64, y - 44) + " > 30", 3)
         self.show("its author sees it within three seconds, past the cache of nginx", seen, True)
 
     def conflict(self):
         self.two.wait("document.getElementById('told').className === 'fault'", 10)
-        self.show("the other one reads of it at once", self.two.text("#told"), "somebody else has just changed what you edit: when you save, you see both")
+        self.show(
+            "the other one reads of it at once",
+            self.two.text("#told"),
+            "somebody else has just changed what you edit: when you save, you see both",
+        )
         self.write(self.two, "name", "Rathaus")
         self.two.press("Add a tag")
         self.write(self.two, "floors", "3")
@@ -241,7 +275,11 @@ class People:
         self.two.wait("document.querySelector('#panel .differs')")
         self.show("nothing is overwritten", self.get(451)["tags"], {"name": "Old Town Hall"})
         rows = [row.split("\t") for row in self.two.text("#panel table").split("\n")]
-        wanted = [["shape", "1 point", "1 point", "1 point"], ["tag name", "Town Hall", "Old Town Hall", "Rathaus"], ["tag floors", "–", "–", "3"]]
+        wanted = [
+            ["shape", "1 point", "1 point", "1 point"],
+            ["tag name", "Town Hall", "Old Town Hall", "Rathaus"],
+            ["tag floors", "–", "–", "3"],
+        ]
         self.show("both versions are side by side", [[cell.strip() for cell in row] for row in rows[-3:]], wanted)
         self.keep(self.two, "page-conflict.png")
         self.two.press("Save what is chosen")
@@ -270,10 +308,18 @@ class People:
             return asked(url, words); }; })()""" % (free, json.dumps(feature("place", tags={"name": "first"}))))
         self.one.press("Save")
         told = self.saved(self.one)
-        self.show("a new feature whose id is taken meanwhile gets another", re.sub(r"\d+$", "K", told), f"feature {free + 1} saved, edit K")
+        self.show(
+            "a new feature whose id is taken meanwhile gets another",
+            re.sub(r"\d+$", "K", told),
+            f"feature {free + 1} saved, edit K",
+        )
         self.show("the other one has its id", self.get(free)["tags"], {"name": "first"})
         made = self.get(free + 1)
-        self.show("and it is as it was drawn", (made["layer"], made["tags"], len(made["geometry"]["polygons"][0][0])), ("plan", {"name": "New Square"}, 4))
+        self.show(
+            "and it is as it was drawn",
+            (made["layer"], made["tags"], len(made["geometry"]["polygons"][0][0])),
+            ("plan", {"name": "New Square"}, 4),
+        )
 
     def deletion(self):
         self.one.wait("performance.now() > 0")
@@ -282,7 +328,9 @@ class People:
         self.show("it is seen at once", self.one.text("#panel h2"), "plan 457")
         self.one.press("Delete")
         self.one.wait("document.querySelector('#panel h2').textContent.endsWith('?')")
-        curl(f"{self.front.url}/features/457", "-X", "PUT", body=json.dumps({**self.get(457), "tags": {"name": "Kept"}}))
+        curl(
+            f"{self.front.url}/features/457", "-X", "PUT", body=json.dumps({**self.get(457), "tags": {"name": "Kept"}})
+        )
         self.one.press("Delete it")
         self.one.wait("document.querySelector('#panel h2').textContent.startsWith('Changed')")
         self.show("what somebody else has changed isn't deleted", self.get(457)["tags"], {"name": "Kept"})
@@ -306,7 +354,8 @@ class People:
         self.show("and made once", (after - before, self.get(453)["tags"]), (1, {"name": "Old School"}))
 
     def deleted_before_the_reply(self):
-        """A new feature whose reply is lost, and which somebody else deletes before the page has asked: it isn't made again."""
+        """A new feature whose reply is lost, and which somebody else deletes before the page has asked: it isn't
+        made again."""
         edits, features = self.edits_and_features()
         free = json.loads(curl(f"{self.server.url}/admin/status")[2])["last"] + 1
         self.drawn_point("Gone")
@@ -320,14 +369,19 @@ class People:
             return reply; }; })()""" % free)
         self.one.press("Save")
         told = self.saved(self.one)
-        self.show("a new feature that somebody deletes before its reply isn't made again", (told, self.edits_and_features(), self.get(free)),
-                  (f"feature {free} saved, edit {edits + 1}", (edits + 2, features), None))
+        self.show(
+            "a new feature that somebody deletes before its reply isn't made again",
+            (told, self.edits_and_features(), self.get(free)),
+            (f"feature {free} saved, edit {edits + 1}", (edits + 2, features), None),
+        )
 
     def late_look(self):
-        """The page looks for edits of others while its own has no reply yet, and learns what the feature is now after that."""
+        """The page looks for edits of others while its own has no reply yet, and learns what the feature is now
+        after that."""
         self.edit(self.one, 453)
         self.write(self.one, "name", "Older School")
-        self.one.value("""(() => { const asked = window.fetch; let hasLooked; const looked = new Promise(done => hasLooked = done);
+        self.one.value(
+            """(() => { const asked = window.fetch; let hasLooked; const looked = new Promise(done => hasLooked = done);
             const passed = seconds => new Promise(done => setTimeout(done, 1000 * seconds)); let isMade = false;
             window.fetch = async (url, words) => {
                 const reply = await asked(url, words);
@@ -338,7 +392,11 @@ class People:
         self.one.press("Save")
         self.saved(self.one)
         time.sleep(2)
-        self.show("the page's own edit isn't taken for somebody else's", self.one.text("#told"), f"feature 453 saved, edit {before + 1}")
+        self.show(
+            "the page's own edit isn't taken for somebody else's",
+            self.one.text("#told"),
+            f"feature 453 saved, edit {before + 1}",
+        )
 
     def refused_conflict(self):
         """What two people chose of a feature is refused, first by the server, then since it doesn't run."""
@@ -363,7 +421,8 @@ class People:
         self.show("is saved the fourth time", self.get(452), {**before, "minzoom": 15})
 
     def refused_return(self):
-        """A feature that somebody else has deleted is put back, which is refused, and then somebody else puts one there."""
+        """A feature that somebody else has deleted is put back, which is refused, and then somebody else puts one
+        there."""
         self.edit(self.one, 452)
         before = self.get(452)
         self.write(self.one, "name", "Mine")
@@ -376,7 +435,9 @@ class People:
         curl(f"{self.front.url}/features/452", "-X", "PUT", body=json.dumps(theirs))
         self.one.press("Put mine back")
         self.one.wait("document.querySelector('#panel .differs')")
-        self.show("what is put back replaces nothing that its author hasn't seen", (told, self.get(452)), (AWAY, theirs))
+        self.show(
+            "what is put back replaces nothing that its author hasn't seen", (told, self.get(452)), (AWAY, theirs)
+        )
         self.one.value("document.querySelectorAll('#panel input[name=\"tag name\"]')[1].click()")
         self.one.press("Save what is chosen")
         self.saved(self.one)
@@ -387,7 +448,9 @@ class People:
         self.one.press("New point")
         self.one.click(420, 420)
         self.one.wait("document.querySelector('#panel form')")
-        self.show(f"{name}, a new point, is of the first layer of which points are drawn", self.one.value(LAYER), "place")
+        self.show(
+            f"{name}, a new point, is of the first layer of which points are drawn", self.one.value(LAYER), "place"
+        )
         self.one.type("#panel form input[aria-label=layer]", "plan")
         self.write(self.one, "name", name)
 
@@ -403,8 +466,16 @@ class People:
             self.write(self.one, "name", names[1])
             self.one.press("Save")
             edits += len(set(names))
-            self.show(f"a new feature without replies, {' then '.join(names)}", (told, self.saved(self.one)), (UNKNOWN, f"feature {free} saved, edit {edits}"))
-            self.show("is there once", (self.edits_and_features(), self.get(free)["tags"]), ((edits, features + 1), {"name": names[1]}))
+            self.show(
+                f"a new feature without replies, {' then '.join(names)}",
+                (told, self.saved(self.one)),
+                (UNKNOWN, f"feature {free} saved, edit {edits}"),
+            )
+            self.show(
+                "is there once",
+                (self.edits_and_features(), self.get(free)["tags"]),
+                ((edits, features + 1), {"name": names[1]}),
+            )
 
     def taken_id(self):
         """The id of a new feature is taken by somebody else while the server is away for its author."""
@@ -416,10 +487,15 @@ class People:
         self.one.press("Save")
         self.saved(self.one)
         found = [self.get(number)["tags"] for number in (free, free + 1)]
-        self.show("a new feature whose id is taken while its save is refused gets another", (told, found), (AWAY, [{"name": "first"}, {"name": "Bench"}]))
+        self.show(
+            "a new feature whose id is taken while its save is refused gets another",
+            (told, found),
+            (AWAY, [{"name": "first"}, {"name": "Bench"}]),
+        )
 
     def cut(self, whole, places, tags):
-        """Puts pieces of a large feature, squares of ten pixels at zoom 16 in the sea, in rows of 14; their ids are as `--id` makes them."""
+        """Puts pieces of a large feature, squares of ten pixels at zoom 16 in the sea, in rows of 14; their ids are
+        as `--id` makes them."""
         x, y = (int(part) for part in world(SEA[1], SEA[0]))
         rows = []
         for at in places:
@@ -445,7 +521,8 @@ class People:
         return made
 
     def many_pieces(self):
-        """A large feature that several edits change: the second one is refused, then replies are lost, then its author changes more."""
+        """A large feature that several edits change: the second one is refused, then replies are lost, then its
+        author changes more."""
         self.cut(600, range(140), {"name": "Cut", "note": "Ж" * 300})
         made = self.sea(75, "Edit")
         made.wait("document.querySelector('#panel form')")
@@ -456,14 +533,19 @@ class People:
             made.value(words)
             told.append(self.refused(made, "Save"))
         time.sleep(WHILE)
-        self.show("many pieces, of which a part is saved", (told, sorted(set(self.names(600, range(140))))), ([AWAY, UNKNOWN], ["Cut", "One"]))
+        self.show(
+            "many pieces, of which a part is saved",
+            (told, sorted(set(self.names(600, range(140))))),
+            ([AWAY, UNKNOWN], ["Cut", "One"]),
+        )
         made.type(named, "Two")
         made.press("Save")
         self.saved(made)
         self.show("are all saved by a further change", self.names(600, range(140)), ["Two"])
 
     def deleted_pieces(self):
-        """The deletion of a large feature is interrupted twice, and ended in another page. Then one that somebody else deletes is put back."""
+        """The deletion of a large feature is interrupted twice, and ended in another page. Then one that somebody
+        else deletes is put back."""
         _, features = self.edits_and_features()
         made = self.sea(75, "Delete")
         made.wait("document.querySelector('#panel h2').textContent.endsWith('?')")
@@ -471,23 +553,36 @@ class People:
         for _ in range(2):
             made.value(REFUSE % (1, 1))
             told.append(self.refused(made, "Delete it"))
-        self.show("a deletion that is interrupted twice leaves the first pieces", (told, self.names(600, range(11)), self.names(600, [139])),
-                  ([AWAY] * 2, ["Two"], [None]))
+        self.show(
+            "a deletion that is interrupted twice leaves the first pieces",
+            (told, self.names(600, range(11)), self.names(600, [139])),
+            ([AWAY] * 2, ["Two"], [None]),
+        )
         made = self.sea(5, "Delete")
         made.press("Delete it")
         self.saved(made)
-        self.show("which another page deletes", (self.names(600, range(140)), self.edits_and_features()[1]), ([None], features - 140))
+        self.show(
+            "which another page deletes",
+            (self.names(600, range(140)), self.edits_and_features()[1]),
+            ([None], features - 140),
+        )
         self.cut(600, range(20), {"name": "Cut"})
         made = self.sea(5, "Edit")
         made.wait("document.querySelector('#panel form')")
         made.type("#panel form tbody tr:first-child [aria-label=value]", "Back")
         before = [self.get(600 + PIECE * at) for at in range(20)]
-        curl(f"{self.server.url}/edits", body=json.dumps({"changes": [{"delete": 600 + PIECE * at} for at in range(20)]}))
+        curl(
+            f"{self.server.url}/edits", body=json.dumps({"changes": [{"delete": 600 + PIECE * at} for at in range(20)]})
+        )
         made.press("Save")
         made.press("Put mine back")
         self.saved(made)
         wanted = [{**piece, "tags": {"name": "Back", "whole": 600}} for piece in before]
-        self.show("a large feature that somebody else has deleted is put back", [self.get(600 + PIECE * at) for at in range(20)], wanted)
+        self.show(
+            "a large feature that somebody else has deleted is put back",
+            [self.get(600 + PIECE * at) for at in range(20)],
+            wanted,
+        )
 
     def lonely_piece(self):
         """A piece whose first piece somebody has deleted."""
@@ -512,30 +607,50 @@ class People:
         self.drawn(made)
         made.click(*made.value(PLACE % (x + 4500, y + 4500)))
         made.wait("document.querySelector('#panel th')")
-        heads = made.value("[...document.querySelectorAll('#panel th')].map(head => [head.innerText, head.scrollWidth > 60])")
+        heads = made.value(
+            "[...document.querySelectorAll('#panel th')].map(head => [head.innerText, head.scrollWidth > 60])"
+        )
         self.show("names of tags are readable beside a long text", heads, [["name", True], ["note", True]])
-        edges = "[document.querySelector('nav').getBoundingClientRect().bottom, document.getElementById('panel').getBoundingClientRect().top]"
+        edges = (
+            "[document.querySelector('nav').getBoundingClientRect().bottom,"
+            " document.getElementById('panel').getBoundingClientRect().top]"
+        )
         made.press("Edit")
         made.wait("document.querySelector('#panel form')")
         nav, panel = made.value(edges)
         left, top = made.value(PLACE % (x + 4500, y + 4500))
-        self.show("on a narrow screen the feature that is edited is between buttons and panel", (0 < left < 390, nav < top < panel), (True, True))
+        self.show(
+            "on a narrow screen the feature that is edited is between buttons and panel",
+            (0 < left < 390, nav < top < panel),
+            (True, True),
+        )
         made.press("Cancel")
         zoom = made.value("Number(location.hash.slice(1).split('/')[0])")
         begin, end = [(left - 50, top), (left + 50, top)], [(left - 70, top + 20), (left + 130, top + 20)]
         self.touch(made, [("touchStart", begin), ("touchMove", end), ("touchEnd", [])])
         now = made.value(PLACE % (x + 4500, y + 4500))
-        self.show("two fingers twice as far apart zoom in by one", round(made.value("Number(location.hash.slice(1).split('/')[0])") - zoom, 1), 1)
+        self.show(
+            "two fingers twice as far apart zoom in by one",
+            round(made.value("Number(location.hash.slice(1).split('/')[0])") - zoom, 1),
+            1,
+        )
         self.show("and the place between them goes with them", [round(now[0] - left), round(now[1] - top)], [30, 20])
         before = made.value("location.hash")
-        self.touch(made, [("touchStart", [(200, 300)]), ("touchMove", [(230, 340)]), ("touchMove", [(260, 380)]), ("touchEnd", [])])
+        self.touch(
+            made,
+            [("touchStart", [(200, 300)]), ("touchMove", [(230, 340)]), ("touchMove", [(260, 380)]), ("touchEnd", [])],
+        )
         self.show("then one finger moves the map again", made.value("location.hash") != before, True)
         self.show("and touches select nothing meanwhile", made.value("document.getElementById('panel').hidden"), True)
 
     def touch(self, made, steps):
         """Touches the screen: of each step what happens, and where the fingers are then."""
         for kind, fingers in steps:
-            made.ask("Input.dispatchTouchEvent", type=kind, touchPoints=[{"x": left, "y": top, "id": at} for at, (left, top) in enumerate(fingers)])
+            made.ask(
+                "Input.dispatchTouchEvent",
+                type=kind,
+                touchPoints=[{"x": left, "y": top, "id": at} for at, (left, top) in enumerate(fingers)],
+            )
 
     def large_feature(self):
         self.one.value("location.hash = '#15/54.5/7.5'")
@@ -544,7 +659,10 @@ class People:
         self.write(self.one, "name", "Nordwerth Island")
         self.one.press("Add a tag")
         self.write(self.one, "area", "9007199254740993")
-        self.one.value("(() => { const kind = document.querySelector('#panel form tbody tr:last-child select'); kind.value = 'number'; kind.onchange(); })()")
+        self.one.value(
+            "(() => { const kind = document.querySelector('#panel form tbody tr:last-child select'); kind.value ="
+            " 'number'; kind.onchange(); })()"
+        )
         self.one.press("Save")
         self.saved(self.one)
         tags = [self.get(number)["tags"] for number in range(101, 118)]
@@ -552,13 +670,23 @@ class People:
         self.show("all pieces of a large feature are changed, and no number is rounded", tags, [wanted] * 17)
         self.edit_land()
         self.one.type("#panel form tbody tr:first-child [aria-label=value]", "8")
-        curl(f"{self.front.url}/features/105", "-X", "PUT", body=json.dumps({**self.get(105), "tags": {**wanted, "name": "by others"}}))
+        curl(
+            f"{self.front.url}/features/105",
+            "-X",
+            "PUT",
+            body=json.dumps({**self.get(105), "tags": {**wanted, "name": "by others"}}),
+        )
         self.one.press("Save")
         self.one.wait("document.querySelector('#panel .differs')")
         row = [row.split("\t") for row in self.one.text("#panel table").split("\n") if row.startswith("tag name")]
-        self.show("what somebody else changed of one piece is a conflict", [[cell.strip() for cell in cells] for cells in row],
-                  [["tag name", "Nordwerth Island", "by others", "Nordwerth Island"]])
-        self.show("and nothing is changed", [self.get(number)["tags"]["area"] for number in (101, 117)], [wanted["area"]] * 2)
+        self.show(
+            "what somebody else changed of one piece is a conflict",
+            [[cell.strip() for cell in cells] for cells in row],
+            [["tag name", "Nordwerth Island", "by others", "Nordwerth Island"]],
+        )
+        self.show(
+            "and nothing is changed", [self.get(number)["tags"]["area"] for number in (101, 117)], [wanted["area"]] * 2
+        )
         self.one.press("Save what is chosen")
         self.saved(self.one)
         tags = [self.get(number)["tags"] for number in range(101, 118)]
@@ -586,10 +714,20 @@ class People:
         self.show("and at its foot", self.one.wait(away, 10), True)
         late = self.browser.open(f"{self.front.url}/pages/#16/54.5/7.5")
         late.wait(away, 10)
-        self.show("a page that is opened meanwhile says so too", late.text("#told"), "the server doesn't answer (502): the page asks again")
+        self.show(
+            "a page that is opened meanwhile says so too",
+            late.text("#told"),
+            "the server doesn't answer (502): the page asks again",
+        )
         with Server(self.folder, "town", port=self.server.port, more=["--admin"]):
             self.show("and lets edit once it is back", late.wait("!document.getElementById('adding').hidden", 15), True)
-            self.show("as it says", bool(late.wait("/^[0-9]+ features, edit [0-9]+$/.test(document.getElementById('told').textContent)", 5)), True)
+            self.show(
+                "as it says",
+                bool(
+                    late.wait("/^[0-9]+ features, edit [0-9]+$/.test(document.getElementById('told').textContent)", 5)
+                ),
+                True,
+            )
             self.one.press("Save")
             self.saved(self.one)
             self.show("and what was typed is saved when it is back", self.get(452)["tags"], {"name": "St Mary"})
@@ -603,9 +741,17 @@ class People:
             made = self.browser.open(f"{front.url}/pages/#16/54.5/7.5")
             made.wait("document.getElementById('told').textContent")
             self.drawn(made)
-            self.show("a machine that may not edit reads why", made.text("#told"), "view only: this machine may not edit the map")
+            self.show(
+                "a machine that may not edit reads why",
+                made.text("#told"),
+                "view only: this machine may not edit the map",
+            )
             made.click(*self.place(made, 453))
-            self.show("and sees tags, without buttons to edit", made.text("#panel").split("\n"), ["place 453", "name\tOlder School", "Close"])
+            self.show(
+                "and sees tags, without buttons to edit",
+                made.text("#panel").split("\n"),
+                ["place 453", "name\tOlder School", "Close"],
+            )
 
     def passwords(self, nginx):
         """A machine that may edit with a password only: the browser asks for it only after a click on the button."""
@@ -615,19 +761,34 @@ class People:
         folder = os.path.join(self.folder, "passwords")
         os.mkdir(folder)
         people = os.path.join(folder, "people")
-        hidden = subprocess.run(["openssl", "passwd", "-apr1", "secret"], capture_output=True, text=True, check=True).stdout
+        hidden = subprocess.run(
+            ["openssl", "passwd", "-apr1", "secret"], capture_output=True, text=True, check=True
+        ).stdout
         with open(people, "w", encoding="utf-8") as file:
             file.write("ann:" + hidden)
         os.chmod(people, 0o644)
-        block = [("# satisfy any;", "satisfy any;"), ("# auth_basic", "auth_basic"), ("/etc/vtserve/people", people), ("allow 127.0.0.1;", "")]
+        block = [
+            ("# satisfy any;", "satisfy any;"),
+            ("# auth_basic", "auth_basic"),
+            ("/etc/vtserve/people", people),
+            ("allow 127.0.0.1;", ""),
+        ]
         with Nginx(nginx, folder, self.server, block) as front:
             shutil.copytree(PAGE, os.path.join(front.folder, "pages"))
             made = self.browser.open(f"{front.url}/pages/#16/54.5/7.5")
             made.wait("document.getElementById('told').textContent", 8)
-            self.show("with passwords, who only looks is asked for none", made.text("#told"), "view only: log in to edit the map")
+            self.show(
+                "with passwords, who only looks is asked for none",
+                made.text("#told"),
+                "view only: log in to edit the map",
+            )
             self.drawn(made)
             made.click(*self.place(made, 453))
-            self.show("and sees tags, without buttons to edit", made.text("#panel").split("\n"), ["place 453", "name\tOlder School", "Close"])
+            self.show(
+                "and sees tags, without buttons to edit",
+                made.text("#panel").split("\n"),
+                ["place 453", "name\tOlder School", "Close"],
+            )
             # Here the browser learns the password, as from its dialog.
             self.browser.open(front.url.replace("//", "//ann:secret@") + "/admin/status")
             made.press("Log in")
@@ -639,7 +800,8 @@ class People:
             self.show("and saves", self.get(453)["tags"], {"name": "Oldest School"})
 
     def elsewhere(self, nginx):
-        """An editor whose address isn't among those that nginx keeps tiles of each edit for, as one with a password from elsewhere."""
+        """An editor whose address isn't among those that nginx keeps tiles of each edit for, as one with a password
+        from elsewhere."""
         folder = os.path.join(self.folder, "elsewhere")
         os.mkdir(folder)
         with Nginx(nginx, folder, self.server, [("127.0.0.1 1;", "")]) as front:
@@ -652,9 +814,18 @@ class People:
             made.drag((x, y), (x - 60, y - 40), keys=1)
             made.press("Save")
             self.saved(made)
-            self.show("whose tiles nginx keeps sees his edit when its time is over", made.wait(RED % (x - 64, y - 44) + " > 30", 25), True)
+            self.show(
+                "whose tiles nginx keeps sees his edit when its time is over",
+                made.wait(RED % (x - 64, y - 44) + " > 30", 25),
+                True,
+            )
 
     def faults(self):
         """What the browser complained of, but for refusals that it should get."""
-        told = [fault for made in (self.one, self.two) for fault in made.faults() if not fault.startswith("Failed to load resource")]
+        told = [
+            fault
+            for made in (self.one, self.two)
+            for fault in made.faults()
+            if not fault.startswith("Failed to load resource")
+        ]
         self.show("the browser complains of nothing", told, [])

@@ -1,5 +1,6 @@
 #!/usr/bin/env python3
-"""Prints a tile of an archive at a URL as hexadecimal text: by requests of byte ranges, as a browser's reader of PMTiles makes them.
+"""Prints a tile of an archive at a URL as hexadecimal text: by requests of byte ranges, as a browser's reader of
+PMTiles makes them.
 
     python3 read_range.py http://HOST/map.pmtiles 7/1/0
 

@@ -1,5 +1,6 @@
 #!/usr/bin/python3
-"""What GDAL reads of all tiles in the archive of a file: prints as JSON how many contents it has and the least and greatest coordinate.
+"""What GDAL reads of all tiles in the archive of a file: prints as JSON how many contents it has and the least and
+greatest coordinate.
 
     /usr/bin/python3 tests/clients/read_tiles.py map.pmtiles
 
@@ -33,8 +34,16 @@ def main():
         archive = file.read()
     root, root_length, _, _, leaves, _, tiles = (int.from_bytes(archive[at:at + 8], "little") for at in range(8, 64, 8))
     places = sorted(set(contents(archive, root, root_length, leaves, tiles)))
-    extents = [extent(archive[at:at + length]) for at, length in places]
-    print(json.dumps({"contents": len(places), "least": min(one for one, _ in extents), "greatest": max(one for _, one in extents)}))
+    extents = [extent(archive[at : at + length]) for at, length in places]
+    print(
+        json.dumps(
+            {
+                "contents": len(places),
+                "least": min(one for one, _ in extents),
+                "greatest": max(one for _, one in extents),
+            }
+        )
+    )
 
 
 if __name__ == "__main__":

@@ -7,7 +7,9 @@ from .stand import JSON, Cases, Server, curl, feature, parsed, refusal, same, st
 
 def methods(reply):
     """The reply with the methods of `allow` in alphabetical order: HTTP.md's order leaves HEAD's place open."""
-    fields = [(name, ", ".join(sorted(value.split(", ")))) if name == "allow" else (name, value) for name, value in reply[1]]
+    fields = [
+        (name, ", ".join(sorted(value.split(", ")))) if name == "allow" else (name, value) for name, value in reply[1]
+    ]
     return reply[0], fields, reply[2]
 
 
@@ -30,22 +32,46 @@ def refused_requests(cases: Cases, folder: str) -> None:
         same(cases, "a body in chunks", chunked, refusal(501, "Coding", closes=True))
         expected = curl(url + "/features/7", "-X", "PUT", "-H", "Expect: 100-continue", body=feature())
         same(cases, "a body behind an expectation", expected, refusal(417, "Expect", closes=True))
-        same(cases, "a body of 65,537 bytes", curl(url + "/features/7", "-X", "PUT", body="x" * 65537), refusal(413, "Body", closes=True))
-        same(cases, "a body of 65,536 bytes is read", curl(url + "/features/7", "-X", "PUT", body="x" * 65536), refusal(400, "Json"))
+        same(
+            cases,
+            "a body of 65,537 bytes",
+            curl(url + "/features/7", "-X", "PUT", body="x" * 65537),
+            refusal(413, "Body", closes=True),
+        )
+        same(
+            cases,
+            "a body of 65,536 bytes is read",
+            curl(url + "/features/7", "-X", "PUT", body="x" * 65536),
+            refusal(400, "Json"),
+        )
         same(cases, "HTTP/1.0 without a host", curl(tile, "--http1.0", "-H", "Host:"), wanted(204, closes=True))
-        same(cases, "an expectation in HTTP/1.0", curl(tile, "--http1.0", "-H", "Expect: 100-continue"), refusal(417, "Expect", closes=True))
+        same(
+            cases,
+            "an expectation in HTTP/1.0",
+            curl(tile, "--http1.0", "-H", "Expect: 100-continue"),
+            refusal(417, "Expect", closes=True),
+        )
         same(cases, "connection: close", curl(tile, "-H", "Connection: Close"), wanted(204, closes=True))
         for name, sent, word in [
             ("a head cut short", b"GET / HTTP/1.1\r\nhost: x\r\n", "Head"),
             ("a body cut short", b"PUT /features/7 HTTP/1.1\r\nhost: x\r\ncontent-length: 9\r\n\r\nabc", "Short"),
-            ("two lengths", b"PUT /features/7 HTTP/1.1\r\nhost: x\r\ncontent-length: 3\r\ncontent-length: 3\r\n\r\nabc", "Length"),
+            (
+                "two lengths",
+                b"PUT /features/7 HTTP/1.1\r\nhost: x\r\ncontent-length: 3\r\ncontent-length: 3\r\n\r\nabc",
+                "Length",
+            ),
             ("two hosts", b"GET / HTTP/1.1\r\nhost: x\r\nhost: x\r\n\r\n", "Host"),
         ]:
             same(cases, f"{name} (a bare socket)", parsed(bare(server.port, sent)), refusal(400, word, closes=True))
         sent = b"GET /map/0/0/0.mvt HTTP/1.0\r\nhost: x\r\nhost: x\r\n\r\n"
         same(cases, "two hosts in HTTP/1.0 (a bare socket)", parsed(bare(server.port, sent)), wanted(204, closes=True))
         sent = b"GET http://x/map/0/0/0.mvt HTTP/1.1\r\nhost: x\r\nconnection: close\r\n\r\n"
-        same(cases, "a target in absolute form (a bare socket)", parsed(bare(server.port, sent)), refusal(404, "NotFound", closes=True))
+        same(
+            cases,
+            "a target in absolute form (a bare socket)",
+            parsed(bare(server.port, sent)),
+            refusal(404, "NotFound", closes=True),
+        )
         features = ["/features", "/features/", "/features/07", "/features/9223372036854775808", "/features/%37"]
         tiles = ["/map/20/0/0.mvt", "/map/19/524288/0.mvt", "/map/1/2/0.mvt", "/map/0/0/0.png", "/map/00/0/0.mvt"]
         for path in ["/", "/publish/", *features, *tiles]:
@@ -61,7 +87,12 @@ def refused_requests(cases: Cases, folder: str) -> None:
             ("/publish/step", "GET", "POST"),
             ("/publish/cancel", "DELETE", "POST"),
         ]:
-            same(cases, f"{method} {path}", methods(curl(url + path, "-X", method)), refusal(405, "Method", more=[("allow", allowed)]))
+            same(
+                cases,
+                f"{method} {path}",
+                methods(curl(url + path, "-X", method)),
+                refusal(405, "Method", more=[("allow", allowed)]),
+            )
         big = "x" * 3000000
         replies = [curl(url + "/features/7", "-X", "PUT", "-H", "Expect:", body=big) for _ in range(60)]
         whole = [reply for reply in replies if (status_of(reply), reply[2]) == (413, b"Body\n")]
@@ -110,7 +141,11 @@ def refused_features(cases: Cases, folder: str) -> None:
         ("4,094 points", "E8 Long", feature(geometry={"points": [[0, 0]] * 4094})),
         ("the whole world on 20 zooms", "E9 Reach", feature(last=19, geometry=world)),
         ("the whole world on zooms 0 to 9", "E9 Reach", feature(last=9, geometry=world)),
-        ("262,145 tiles of zoom 19", "E9 Reach", feature(first=19, last=19, geometry={"lines": [[[0, 0], [2147483520, 0]]]})),
+        (
+            "262,145 tiles of zoom 19",
+            "E9 Reach",
+            feature(first=19, last=19, geometry={"lines": [[[0, 0], [2147483520, 0]]]}),
+        ),
     ]
     with Server(folder, "features", 65536) as server:
         path = server.url + "/features/1"

@@ -1,5 +1,5 @@
-"""The part `replicas` of run.py: processes on one machine make the tiles of readers, by `vtmap replica`, the units of replicas and docs/nginx.conf. A
-stand-in for systemctl runs what the units run."""
+"""The part `replicas` of run.py: processes on one machine make the tiles of readers, by `vtmap replica`, the units
+of replicas and docs/nginx.conf. A stand-in for systemctl runs what the units run."""
 import os
 import shutil
 import signal
@@ -34,10 +34,18 @@ class Reader(threading.Thread):
 def commands(cases, here, server):
     """What `vtmap replica` refuses, and what it writes."""
     url = ("--url", server.url)
-    cases.show("replicas: none", here.vtmap("replica", *url), (0, ["there is no replica: `vtmap replica add` makes one"]))
+    cases.show(
+        "replicas: none", here.vtmap("replica", *url), (0, ["there is no replica: `vtmap replica add` makes one"])
+    )
     wrong = [["remove"], ["add", "0"], ["add", "65536"], ["add", "--disk", "here"]]
-    cases.show("replicas: words that are wrong", [here.vtmap("replica", *words, *url)[0] for words in wrong], [2] * len(wrong))
-    cases.show("replicas: one that isn't there", here.vtmap("replica", "remove", "8091", *url), (1, ["there is no replica on port 8091"]))
+    cases.show(
+        "replicas: words that are wrong", [here.vtmap("replica", *words, *url)[0] for words in wrong], [2] * len(wrong)
+    )
+    cases.show(
+        "replicas: one that isn't there",
+        here.vtmap("replica", "remove", "8091", *url),
+        (1, ["there is no replica on port 8091"]),
+    )
     taken = here.vtmap("replica", "add", str(server.port), *url)
     cases.show("replicas: a port of another server", taken, (1, [f"another server answers on port {server.port}"]))
     cases.show("replicas: without a server", here.vtmap("replica", "--url", f"http://127.0.0.1:{free_port()}")[0], 3)
@@ -49,7 +57,11 @@ def commands(cases, here, server):
         told = here.vtmap("replica", "add", *url)
     cases.show("replicas: systemctl fails", (told[0], "Failed to enable unit" in told[1][0]), (1, True))
     os.unlink(os.path.join(here.kept, "fails"))
-    left = [name for name in ("etc/vtserve/replicas", "etc/vtserve/nginx-maps/replicas.conf") if os.path.exists(here.path(name))]
+    left = [
+        name
+        for name in ("etc/vtserve/replicas", "etc/vtserve/nginx-maps/replicas.conf")
+        if os.path.exists(here.path(name))
+    ]
     cases.show("replicas: nothing is left of those", (left, here.vtmap("replica", *url)[0]), ([], 0))
 
 
@@ -57,15 +69,27 @@ def added(cases, here, server, front):
     """Adds two while a reader goes on. Returns their ports."""
     ports, reader = [free_port(), free_port()], Reader(front.url)
     first = here.vtmap("replica", "add", str(ports[0]), "--url", server.url)
-    cases.show("replicas: one is added", first, (0, [f"replica on port {ports[0]}: it has edit 1, and makes tiles for readers"]))
+    cases.show(
+        "replicas: one is added",
+        first,
+        (0, [f"replica on port {ports[0]}: it has edit 1, and makes tiles for readers"]),
+    )
     folder = here.path("disks")
     os.mkdir(folder)
     second = here.vtmap("replica", "add", str(ports[1]), "--disk", folder, "--url", server.url)
-    cases.show("replicas: another one, whose disk has a folder", (second[0], os.listdir(folder)), (0, [f"replica-{ports[1]}.disk"]))
+    cases.show(
+        "replicas: another one, whose disk has a folder",
+        (second[0], os.listdir(folder)),
+        (0, [f"replica-{ports[1]}.disk"]),
+    )
     cases.show("replicas: no request fails meanwhile", reader.end(), (True, [200]))
     again = here.vtmap("replica", "add", str(ports[0]), "--url", server.url)
     cases.show("replicas: one that is there", again, (1, [f"there is a replica on port {ports[0]} already"]))
-    cases.show("replicas: their list", here.vtmap("replica", "--url", server.url), (0, [f"port {port}: edit 1" for port in sorted(ports)]))
+    cases.show(
+        "replicas: their list",
+        here.vtmap("replica", "--url", server.url),
+        (0, [f"port {port}: edit 1" for port in sorted(ports)]),
+    )
     with open(here.path("etc/vtserve/replicas"), encoding="utf-8") as file:
         cases.show("replicas: the file of who follows", file.read().splitlines()[1:], ["TO=" + " ".join(
             f"--to http://127.0.0.1:{port}" for port in sorted(ports))])
@@ -85,7 +109,11 @@ def balanced(cases, here, server, front, ports):
     cases.show("replicas: readers have the tile of the replicas", tiles(), {200})
     cases.show("replicas: who has edited has the newest", tiles("?edit=2"), {204})
     lag = here.vtmap("replica", "--url", server.url)
-    cases.show("replicas: the list says what they lack", lag, (0, [f"port {port}: edit 1, 1 less than the server" for port in sorted(ports)]))
+    cases.show(
+        "replicas: the list says what they lack",
+        lag,
+        (0, [f"port {port}: edit 1, 1 less than the server" for port in sorted(ports)]),
+    )
     os.kill(follower, signal.SIGCONT)
     cases.show("replicas: readers have it once the replicas have the edit", waited(lambda: tiles() == {204}), True)
     curl(front.url + "/features/1", "-X", "PUT", body=feature())
@@ -105,7 +133,9 @@ def removed(cases, here, server, front, ports):
         cases.show("replicas: one is removed", here.vtmap("replica", "remove", str(port), "--url", server.url), (
             0, [f"the replica on port {port} is removed"]))
     cases.show("replicas: no request fails meanwhile, either", reader.end(), (True, [200]))
-    left = [name for name in os.listdir(here.path("etc/vtserve/nginx-maps"))] + os.listdir(here.path("etc/systemd/system"))
+    left = [name for name in os.listdir(here.path("etc/vtserve/nginx-maps"))] + os.listdir(
+        here.path("etc/systemd/system")
+    )
     cases.show("replicas: what is left", (left, os.path.exists(here.path("etc/vtserve/replicas"))), ([], False))
 
 

@@ -1,6 +1,8 @@
-"""The part `round-trips` of run.py: what the map does to data, from a GeoPackage of an office into the map and out again (OFFICE.md says it in a table).
+"""The part `round-trips` of run.py: what the map does to data, from a GeoPackage of an office into the map and out
+again (OFFICE.md says it in a table).
 
-The file has points in UTM with decimals and dates, lines, curves and heights, and a table without geometry. GDAL writes and reads it.
+The file has points in UTM with decimals and dates, lines, curves and heights, and a table without geometry. GDAL
+writes and reads it.
 """
 import json
 import os
@@ -15,7 +17,8 @@ from .import_stand import has_gdal, imported
 from .stand import SYSTEM_PYTHON, Cases, Server
 from .updates import listed
 
-# Writes the file, or prints what is to be compared: for each well the distance in metres between two files, and the types of a layer.
+# Writes the file, or prints what is to be compared: for each well the distance in metres between two files, and the
+# types of a layer.
 WRITE = """
 import random, sys
 from osgeo import gdal, ogr, osr
@@ -87,16 +90,36 @@ def there_and_back(cases: Cases, folder: str) -> None:
             "note: heights (Z) are dropped: 1 feature",
             "note: the layer owner of the file is a table without geometry, and isn't read",
         ]
-        cases.show("round trips: a GeoPackage, and what is told of it", (code, lines[-1], notes), (0, "1003 taken, 0 refused", wanted))
-        cases.show("round trips: decimals and dates are texts on the map", listed(server)[3]["tags"],
-                   {"nr": 3, "depth": "0.375", "built": "2003-01-31", "seen": "2024-01-31T12:30:05Z", "code": "00003"})
-        cases.show("round trips: a curve is a line of many points", len(listed(server)[2002]["geometry"]["lines"][0]) > 20, True)
+        cases.show(
+            "round trips: a GeoPackage, and what is told of it",
+            (code, lines[-1], notes),
+            (0, "1003 taken, 0 refused", wanted),
+        )
+        cases.show(
+            "round trips: decimals and dates are texts on the map",
+            listed(server)[3]["tags"],
+            {"nr": 3, "depth": "0.375", "built": "2003-01-31", "seen": "2024-01-31T12:30:05Z", "code": "00003"},
+        )
+        cases.show(
+            "round trips: a curve is a line of many points",
+            len(listed(server)[2002]["geometry"]["lines"][0]) > 20,
+            True,
+        )
         gis("checkout", out, "--base", path + ".base", "--url", server.url)
         moved, types, pipe = json.loads(python(READ, path, out))
-        cases.show("round trips: a point of UTM comes back within 4 mm", (max(moved) < 0.004, statistics.median(moved) < 0.0025), (True, True))
-        cases.say(f"moved by {1000 * statistics.median(moved):.1f} mm in the median, {1000 * max(moved):.1f} mm at most")
-        cases.show("round trips: columns have the types of the file", {name: types[name] for name in ("nr", "depth", "built", "seen", "code")},
-                   {"nr": "Integer64", "depth": "Real", "built": "Date", "seen": "DateTime", "code": "String"})
+        cases.show(
+            "round trips: a point of UTM comes back within 4 mm",
+            (max(moved) < 0.004, statistics.median(moved) < 0.0025),
+            (True, True),
+        )
+        cases.say(
+            f"moved by {1000 * statistics.median(moved):.1f} mm in the median, {1000 * max(moved):.1f} mm at most"
+        )
+        cases.show(
+            "round trips: columns have the types of the file",
+            {name: types[name] for name in ("nr", "depth", "built", "seen", "code")},
+            {"nr": "Integer64", "depth": "Real", "built": "Date", "seen": "DateTime", "code": "String"},
+        )
         cases.show("round trips: a LineString is a MultiLineString", pipe, "Multi Line String")
         quiet = "0 new, 0 changed, 0 deleted, 0 conflicts, 0 refused"
         cases.show("round trips: nothing of it is sent", gis("checkin", out), (0, [quiet]))
@@ -106,13 +129,25 @@ def there_and_back(cases: Cases, folder: str) -> None:
         sql(out, "INSERT INTO well (geom, code, minzoom, maxzoom) SELECT geom, 'new', 10, 14 FROM well WHERE fid = 3")
         code, lines = gis("checkin", out)
         said = "sending: well 3: built: '2003-01-31' -> '2024-02-29', depth: '0.375' -> '2.75'"
-        cases.show("round trips: what is edited is a text again", (code, said in lines, listed(server)[3]["tags"]["depth"]), (0, True, "2.75"))
+        cases.show(
+            "round trips: what is edited is a text again",
+            (code, said in lines, listed(server)[3]["tags"]["depth"]),
+            (0, True, "2.75"),
+        )
         new = [line for line in lines if re.fullmatch(r"sending: well 2004 \(row \d+ of well\): new", line)]
         cases.show("round trips: a new row is told with its id", len(new), 1)
-        cases.show("round trips: a table without geometry isn't sent, which is told", "note: the table note has no geometry, and isn't sent" in lines, True)
+        cases.show(
+            "round trips: a table without geometry isn't sent, which is told",
+            "note: the table note has no geometry, and isn't sent" in lines,
+            True,
+        )
         code, lines = gis("checkout", os.path.join(folder, "plain.gpkg"), "--url", server.url)
         found = {name: form for _, name, form, *_ in sql(os.path.join(folder, "plain.gpkg"), "PRAGMA table_info(well)")}
-        cases.show("round trips: without the file's types they are texts", (code, found["depth"], found["built"]), (0, "TEXT", "TEXT"))
+        cases.show(
+            "round trips: without the file's types they are texts",
+            (code, found["depth"], found["built"]),
+            (0, "TEXT", "TEXT"),
+        )
 
 
 def tables(cases: Cases, folder: str) -> None:
@@ -128,9 +163,14 @@ def tables(cases: Cases, folder: str) -> None:
         with open(source, "w", encoding="utf-8") as file:
             file.write("name,owner\na,b\n")
         code, lines = imported(source, server.url)
-        said = f"{source} has no geometry: name the columns of its points by --x and --y (it has name, owner): nothing was sent"
+        said = (
+            f"{source} has no geometry: name the columns of its points by --x and --y (it has name, owner): nothing was"
+            " sent"
+        )
         cases.show("round trips: a table without a place", (code, lines[-1]), (1, said))
-        subprocess.run(["ogr2ogr", "-f", "GPKG", "-update", alone, source, "-nln", "owners"], check=True, capture_output=True)
+        subprocess.run(
+            ["ogr2ogr", "-f", "GPKG", "-update", alone, source, "-nln", "owners"], check=True, capture_output=True
+        )
         code, lines = imported(alone, server.url)
         cases.show("round trips: two tables alone", (code, "name one by --source" in lines[-1]), (1, True))
         code, lines = imported(alone, server.url, "--source", "rows")

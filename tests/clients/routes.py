@@ -3,7 +3,25 @@ import os
 import re
 import subprocess
 
-from .stand import BYTES, JSON, METADATA, MVT, PROGRAM, SHOWN, TEXT, TILE, Cases, Server, archive, curl, feature, refusal, same, status_of, wanted
+from .stand import (
+    BYTES,
+    JSON,
+    METADATA,
+    MVT,
+    PROGRAM,
+    SHOWN,
+    TEXT,
+    TILE,
+    Cases,
+    Server,
+    archive,
+    curl,
+    feature,
+    refusal,
+    same,
+    status_of,
+    wanted,
+)
 
 
 def routes(cases: Cases, folder: str) -> None:
@@ -21,11 +39,27 @@ def routes(cases: Cases, folder: str) -> None:
             path = f"{url}/map/{zoom}/{column}/{row}"
             same(cases, f"tile {zoom}/{column}/{row}", curl(path + ".mvt"), wanted(200, MVT, bytes.fromhex(TILE)))
             same(cases, f"tile {zoom}/{column}/{row} as hex", curl(path + ".hex"), wanted(200, TEXT, TILE))
-        for zoom, column, row in [(1, 1, 1), (2, 3, 0), (3, 0, 0), (16, 65535, 65535), (17, 0, 1), (19, 524287, 524287)]:
-            same(cases, f"tile {zoom}/{column}/{row} shows nothing", curl(f"{url}/map/{zoom}/{column}/{row}.mvt"), wanted(204))
+        for zoom, column, row in [
+            (1, 1, 1),
+            (2, 3, 0),
+            (3, 0, 0),
+            (16, 65535, 65535),
+            (17, 0, 1),
+            (19, 524287, 524287),
+        ]:
+            same(
+                cases,
+                f"tile {zoom}/{column}/{row} shows nothing",
+                curl(f"{url}/map/{zoom}/{column}/{row}.mvt"),
+                wanted(204),
+            )
         same(cases, "a query isn't looked at", curl(url + "/map/0/0/0.hex?a=b"), wanted(200, TEXT, TILE))
         same(cases, "metadata", curl(url + "/map/metadata"), wanted(200, JSON, METADATA))
-        for path, kind, length in [("/features/7", JSON, len(SHOWN)), ("/map/0/0/0.mvt", MVT, 21), ("/map/metadata", JSON, len(METADATA))]:
+        for path, kind, length in [
+            ("/features/7", JSON, len(SHOWN)),
+            ("/map/0/0/0.mvt", MVT, 21),
+            ("/map/metadata", JSON, len(METADATA)),
+        ]:
             head = ("HTTP/1.1 200 OK", [("content-type", kind), ("content-length", str(length))], b"")
             cases.show(f"HEAD of {path}", curl(url + path, "--head"), head)
         whole = archive()
@@ -34,7 +68,13 @@ def routes(cases: Cases, folder: str) -> None:
         same(cases, "the archive, as the standard has it", curl(url + "/map.pmtiles"), wanted(200, BYTES, whole))
         head = ("HTTP/1.1 200 OK", [("content-type", BYTES), ("content-length", str(len(whole)))], b"")
         cases.show("HEAD of it", curl(url + "/map.pmtiles", "--head"), head)
-        parts = [("0-6", 0, 7), ("0-126", 0, 127), ("00-000", 0, 1), ("200-999", 200, len(whole)), ("222-222", 222, 223)]
+        parts = [
+            ("0-6", 0, 7),
+            ("0-126", 0, 127),
+            ("00-000", 0, 1),
+            ("200-999", 200, len(whole)),
+            ("222-222", 222, 223),
+        ]
         for asked, first, end in parts:
             more = [("content-range", f"bytes {first}-{end - 1}/{len(whole)}")]
             reply = curl(url + "/map.pmtiles", "-H", f"Range: bytes={asked}")
@@ -51,12 +91,21 @@ def routes(cases: Cases, folder: str) -> None:
         same(cases, "a step of no publication", curl(url + "/publish/step", "-X", "POST"), refusal(409, "Idle"))
         same(cases, "a cancellation of none", curl(url + "/publish/cancel", "-X", "POST"), refusal(409, "Idle"))
         begun = curl(url + "/publish/begin", "-X", "POST")
-        cases.show("a publication begins", (status_of(begun), re.fullmatch(rb'\{"left":[1-9][0-9]*\}', begun[2]) is not None), (200, True))
+        cases.show(
+            "a publication begins",
+            (status_of(begun), re.fullmatch(rb'\{"left":[1-9][0-9]*\}', begun[2]) is not None),
+            (200, True),
+        )
         same(cases, "a second one can't", curl(url + "/publish/begin", "-X", "POST"), refusal(409, "Busy"))
         same(cases, "nor one that is whole", curl(url + "/publish", "-X", "POST"), refusal(409, "Busy"))
         same(cases, "it is given up", curl(url + "/publish/cancel", "-X", "POST"), wanted(204))
         curl(url + "/publish/begin", "-X", "POST")
-        same(cases, "an edit between the steps", curl(url + "/features/8", "-X", "PUT", body=feature("q")), wanted(200, JSON, '{"edit":2}'))
+        same(
+            cases,
+            "an edit between the steps",
+            curl(url + "/features/8", "-X", "PUT", body=feature("q")),
+            wanted(200, JSON, '{"edit":2}'),
+        )
         same(cases, "the last step", curl(url + "/publish/step", "-X", "POST"), wanted(200, JSON, '{"left":0}'))
         same(cases, "the archive is that of the beginning", curl(url + "/map.pmtiles"), wanted(200, BYTES, whole))
         same(cases, "DELETE", curl(url + "/features/8", "-X", "DELETE"), wanted(200, JSON, '{"edit":3}'))
@@ -64,4 +113,6 @@ def routes(cases: Cases, folder: str) -> None:
         path = os.path.join(folder, "map.pmtiles")
         subprocess.run(["curl", "--silent", "--output", path, url + "/map.pmtiles"], check=True)
         judged = subprocess.run([PROGRAM, "verify", path], capture_output=True, text=True)
-        cases.show("verify of what curl kept", (judged.returncode, judged.stdout), (0, "ok: 3 tiles, 2 entries, 1 contents\n"))
+        cases.show(
+            "verify of what curl kept", (judged.returncode, judged.stdout), (0, "ok: 3 tiles, 2 entries, 1 contents\n")
+        )

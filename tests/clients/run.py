@@ -1,13 +1,17 @@
 #!/usr/bin/env python3
-"""What clients of other makers meet: `vtserve serve` driven by curl, by GDAL, by nginx with docs/nginx.conf, and by wrk.
+"""What clients of other makers meet: `vtserve serve` driven by curl, by GDAL, by nginx with docs/nginx.conf, and by
+wrk.
 
-    python3 tests/clients/run.py [PROGRAM [PART..]]    PROGRAM is crates/vtserve/out/vtserve, which `rt run` leaves there
+    python3 tests/clients/run.py [PROGRAM [PART..]]
 
-It prints `ok` or `DIFFERS` for each case, with what was wanted, and ends with 1 if one differs. A client that isn't installed is left
-out, and a line says so. With PART only these parts run (`large`, `import`, `disk-full`, `kills`, ..; a wrong name lists them). Wanted
-values are those of docs/HTTP.md and docs/FORMATS.md and of the worked tile there, or are computed here from the standards, never taken
-from the program. Disks and folders are scratch; ports are free ones of 127.0.0.1, and of the kept nginx configuration the two ports alone
-are changed, and what a case names. nginx's refusal of foreign addresses is tried as 127.0.0.2.
+PROGRAM is crates/vtserve/out/vtserve, which `rt run` leaves there.
+
+It prints `ok` or `DIFFERS` for each case, with what was wanted, and ends with 1 if one differs. A client that isn't
+installed is left out, and a line says so. With PART only these parts run (`large`, `import`, `disk-full`, `kills`,
+..; a wrong name lists them). Wanted values are those of docs/HTTP.md and docs/FORMATS.md and of the worked tile
+there, or are computed here from the standards, never taken from the program. Disks and folders are scratch; ports
+are free ones of 127.0.0.1, and of the kept nginx configuration the two ports alone are changed, and what a case
+names. nginx's refusal of foreign addresses is tried as 127.0.0.2.
 """
 import os
 import shutil

@@ -1,8 +1,9 @@
 """The part `screens` of run.py: a browser and QGIS, straight to the server's port, and what they draw of a town.
 
-Chromium fetches forty tiles at once, and draws the map with Mapbox GL JS 1.10.1, which Debian has within plotly.js (`python3-plotly`). QGIS draws
-the project of `vtmap qgis`. Each picture is compared with the one of `vtmap draw`, a reader of its own, by the share of
-pixels of which one is water and the other isn't: the rest has styles of its own. They are kept in the folder that PICTURES names, if it does.
+Chromium fetches forty tiles at once, and draws the map with Mapbox GL JS 1.10.1, which Debian has within plotly.js
+(`python3-plotly`). QGIS draws the project of `vtmap qgis`. Each picture is compared with the one of `vtmap draw`, a
+reader of its own, by the share of pixels of which one is water and the other isn't: the rest has styles of its own.
+They are kept in the folder that PICTURES names, if it does.
 """
 import base64
 import http.server
@@ -69,7 +70,13 @@ def words_of(folder, html):
     page = os.path.join(folder, "page.html")
     with open(page, "w", encoding="utf-8") as file:
         file.write(html)
-    shared = ["--headless=new", "--no-sandbox", "--disable-web-security", f"--user-data-dir={folder}/profile", f"--window-size={WIDE},{HIGH}"]
+    shared = [
+        "--headless=new",
+        "--no-sandbox",
+        "--disable-web-security",
+        f"--user-data-dir={folder}/profile",
+        f"--window-size={WIDE},{HIGH}",
+    ]
     drawing = ["--use-gl=angle", "--use-angle=swiftshader", "--enable-unsafe-swiftshader", "--hide-scrollbars"]
     return ["chromium", *shared, *drawing, "file://" + page]
 
@@ -107,16 +114,35 @@ def styled(url, layers):
         shared = {"source": "map", "source-layer": layer}
         colour = colours.get(layer, "#a89782")
         made += [
-            {**shared, "id": layer + "-area", "type": "fill", "filter": ["==", "$type", "Polygon"], "paint": {"fill-color": colour, "fill-antialias": False}},
-            {**shared, "id": layer + "-line", "type": "line", "filter": ["==", "$type", "LineString"], "paint": {"line-color": colour, "line-width": 3}},
-            {**shared, "id": layer + "-point", "type": "circle", "filter": ["==", "$type", "Point"], "paint": {"circle-color": colour}},
+            {
+                **shared,
+                "id": layer + "-area",
+                "type": "fill",
+                "filter": ["==", "$type", "Polygon"],
+                "paint": {"fill-color": colour, "fill-antialias": False},
+            },
+            {
+                **shared,
+                "id": layer + "-line",
+                "type": "line",
+                "filter": ["==", "$type", "LineString"],
+                "paint": {"line-color": colour, "line-width": 3},
+            },
+            {
+                **shared,
+                "id": layer + "-point",
+                "type": "circle",
+                "filter": ["==", "$type", "Point"],
+                "paint": {"circle-color": colour},
+            },
         ]
     tiles = {"type": "vector", "tiles": [url + "/map/{z}/{x}/{y}.mvt"], "minzoom": 0, "maxzoom": 16}
     return {"version": 8, "sources": {"map": tiles}, "layers": made}
 
 
 def water_differs(one, other):
-    """Of what share of the pixels of two pictures one is water and the other isn't. Water has the same colour in all three."""
+    """Of what share of the pixels of two pictures one is water and the other isn't. Water has the same colour in all
+    three."""
     program = (
         "import sys\nfrom PIL import Image\n"
         "a, b = (Image.open(p).convert('RGB') for p in sys.argv[1:])\n"
@@ -134,10 +160,18 @@ def forty_tiles(cases: Cases, folder: str) -> None:
         corners = [[0, 0], [WORLD, 0], [WORLD, WORLD], [0, WORLD]]
         curl(f"{server.url}/features/1", "-X", "PUT", body=feature(last=3, geometry={"polygons": [[corners]]}))
         sizes = [len(curl(server.url + path)[2]) for path in TILES]
-        milliseconds, lengths = json.loads(told_by(folder, lambda where: FETCHED % (json.dumps(TILES), server.url, where)) or "[null, null]")
+        milliseconds, lengths = json.loads(
+            told_by(folder, lambda where: FETCHED % (json.dumps(TILES), server.url, where)) or "[null, null]"
+        )
         cases.show("screens: Chromium gets forty tiles", lengths, sizes)
-        cases.show("screens: in less than a second", milliseconds is not None and milliseconds < 1000 or milliseconds, True)
-        cases.say(f"screens: Chromium's forty tiles took {milliseconds:.0f} ms" if milliseconds else "screens: Chromium got none")
+        cases.show(
+            "screens: in less than a second", milliseconds is not None and milliseconds < 1000 or milliseconds, True
+        )
+        cases.say(
+            f"screens: Chromium's forty tiles took {milliseconds:.0f} ms"
+            if milliseconds
+            else "screens: Chromium got none"
+        )
 
 
 def drawn_town(cases, folder, kept):
@@ -153,10 +187,16 @@ def drawn_town(cases, folder, kept):
         size = ["--url", server.url, "--zoom", "15", "--centre", "7.5,54.5", "--size", f"{WIDE}x{HIGH}"]
         subprocess.run([*VTMAP, "draw", truth, *size], check=True, capture_output=True)
         layers = [layer["id"] for layer in json.loads(curl(server.url + "/map/metadata")[2])["vector_layers"]]
-        image = told_by(folder, lambda where: DRAWN % (PLOTLY, WIDE, HIGH, json.dumps(styled(server.url, layers)), where))
+        image = told_by(
+            folder, lambda where: DRAWN % (PLOTLY, WIDE, HIGH, json.dumps(styled(server.url, layers)), where)
+        )
         with open(browser, "wb") as file:
             file.write(base64.b64decode(image.partition("base64,")[2]))
-        cases.show("screens: Mapbox GL draws land where the reader of examples does, but for 2 % of the pixels", water_differs(truth, browser), Share(0.02))
+        cases.show(
+            "screens: Mapbox GL draws land where the reader of examples does, but for 2 % of the pixels",
+            water_differs(truth, browser),
+            Share(0.02),
+        )
         project, script = os.path.join(folder, "map.qgs"), os.path.join(folder, "draw.py")
         east, north = 7.5 / 180 * HALF, math.asinh(math.tan(math.radians(54.5))) / math.pi * HALF
         half = HALF / 2**15 / 256
@@ -166,11 +206,23 @@ def drawn_town(cases, folder, kept):
         with open(script, "w", encoding="utf-8") as file:
             file.write(QGIS)
         began = time.monotonic()
-        told = subprocess.run([SYSTEM_PYTHON, script, project, qgis, *extent], capture_output=True, text=True, timeout=200)
+        told = subprocess.run(
+            [SYSTEM_PYTHON, script, project, qgis, *extent], capture_output=True, text=True, timeout=200
+        )
         seconds = re.match(r"([0-9.]+) seconds, 0 errors", told.stdout.splitlines()[-1] if told.stdout else "")
-        cases.show("screens: QGIS draws the town in less than three seconds", seconds is not None and float(seconds[1]) < 3 or told.stdout + told.stderr, True)
-        cases.show("screens: with land where the reader of examples draws it, but for 2 % of the pixels", water_differs(truth, qgis), Share(0.02))
-        cases.say(f"screens: QGIS took {seconds[1] if seconds else '?'} s, {time.monotonic() - began:.1f} s with its start")
+        cases.show(
+            "screens: QGIS draws the town in less than three seconds",
+            seconds is not None and float(seconds[1]) < 3 or told.stdout + told.stderr,
+            True,
+        )
+        cases.show(
+            "screens: with land where the reader of examples draws it, but for 2 % of the pixels",
+            water_differs(truth, qgis),
+            Share(0.02),
+        )
+        cases.say(
+            f"screens: QGIS took {seconds[1] if seconds else '?'} s, {time.monotonic() - began:.1f} s with its start"
+        )
         ends = {line.rpartition(", ")[2] for line in server.lines()}
         cases.show("screens: no connection ended in the middle of a request", ends <= {"closed", "asked"} or ends, True)
         if kept:

@@ -1,7 +1,7 @@
 """The part `maps` of run.py: several maps on a machine, by `vtmap maps`, the template units and docs/nginx.conf.
 
-A stand-in for systemctl runs what the template units run. Three maps and the one of a machine with one are behind one nginx: one is killed, one
-is full, one is removed.
+A stand-in for systemctl runs what the template units run. Three maps and the one of a machine with one are behind
+one nginx: one is killed, one is full, one is removed.
 """
 import json
 import os
@@ -37,7 +37,13 @@ class Here:
         with open(os.path.join(programs, "systemctl"), "w", encoding="utf-8") as file:
             file.write(f'#!/bin/sh\nexec {sys.executable} {HERE}/systemctl_stand_in.py "$@"\n')
         os.chmod(file.name, 0o755)
-        self.words = {**os.environ, "PATH": programs + ":" + os.environ["PATH"], "STAND_IN": self.kept, "ROOT": self.root, "PROGRAM": PROGRAM}
+        self.words = {
+            **os.environ,
+            "PATH": programs + ":" + os.environ["PATH"],
+            "STAND_IN": self.kept,
+            "ROOT": self.root,
+            "PROGRAM": PROGRAM,
+        }
 
     def vtmap(self, *words):
         """The status and the lines of a command of vtmap that has a root."""
@@ -53,7 +59,8 @@ class Here:
         return self.maps("add", name, "--port", str(free_pair()), "--sectors", "64", *words)
 
     def has_front(self, program, front):
-        """This machine's nginx is one that runs: it includes the files of this machine, and is told to read them again."""
+        """This machine's nginx is one that runs: it includes the files of this machine, and is told to read them
+        again."""
         used = os.path.join(front.folder, "used.conf")
         os.symlink(self.path("etc/vtserve/nginx-maps"), os.path.join(front.folder, "nginx-maps"))
         self.words["FRONT"] = front.url
@@ -108,7 +115,9 @@ def answered(url, *words, status=None):
 
 def templates(cases: Cases) -> None:
     """The template units are those of one map, with names, and systemd-analyze has nothing to say of them."""
-    child = subprocess.run([sys.executable, os.path.join(TOP, "tools", "templates.py"), "--check"], capture_output=True, text=True)
+    child = subprocess.run(
+        [sys.executable, os.path.join(TOP, "tools", "templates.py"), "--check"], capture_output=True, text=True
+    )
     cases.show("maps: the template units are made of the units of one map", (child.returncode, child.stdout), (0, ""))
     if not shutil.which("systemd-analyze"):
         cases.say("no systemd-analyze: no template unit is judged")
@@ -131,8 +140,11 @@ def commands(cases, here):
     with open(here.path("etc/vtserve/nginx.conf"), "w", encoding="utf-8") as file:
         file.write("events {}\n")
     told = here.maps("add", "north")
-    cases.show("maps: an nginx.conf that knows one map", (told[0], "install nginx.conf anew" in told[1][0], os.listdir(here.path("etc/vtserve"))),
-               (1, True, ["nginx.conf"]))
+    cases.show(
+        "maps: an nginx.conf that knows one map",
+        (told[0], "install nginx.conf anew" in told[1][0], os.listdir(here.path("etc/vtserve"))),
+        (1, True, ["nginx.conf"]),
+    )
     shutil.copy(os.path.join(TOP, "docs", "nginx.conf"), here.path("etc/vtserve/nginx.conf"))
     with open(os.path.join(here.kept, "fails"), "w", encoding="ascii"):
         told = here.add("north")
@@ -142,14 +154,25 @@ def commands(cases, here):
     disk = here.path("var/lib/vtserve/north/map.disk")
     status, lines = here.maps("add", "north", "--host", "north.example.org", "--memory", "512M", "--sectors", "4096")
     once = " once nginx runs (vtserve-nginx.service)"
-    said = [f"{disk} is kept as it was", "north: http://localhost:8000/north/" + once, "north: http://north.example.org:8000/" + once]
+    said = [
+        f"{disk} is kept as it was",
+        "north: http://localhost:8000/north/" + once,
+        "north: http://north.example.org:8000/" + once,
+    ]
     cases.show("maps: vtmap maps add", (status, lines), (0, said))
     wanted = ["daemon-reload", WATCHED, STARTED.format("north"), ONCE, "--quiet is-active vtserve-nginx.service"]
     cases.show("maps: what it runs", here.calls(), wanted)
-    modes = [here.mode(*path) for path in (["etc/vtserve/maps/north"], ["var/lib/vtserve/north/map.disk"], ["var/lib/vtserve/north"])]
+    modes = [
+        here.mode(*path)
+        for path in (["etc/vtserve/maps/north"], ["var/lib/vtserve/north/map.disk"], ["var/lib/vtserve/north"])
+    ]
     cases.show("maps: modes of its files, and of its folder", modes, ["0o640", "0o640", "0o750"])
     with open(here.path("etc/vtserve/maps/north"), encoding="utf-8") as file:
-        cases.show("maps: its file", file.read().splitlines()[1:], ["PORT=8100", "GATEWAY=8101", 'HOSTS="north.example.org"', "PICTURES=18100"])
+        cases.show(
+            "maps: its file",
+            file.read().splitlines()[1:],
+            ["PORT=8100", "GATEWAY=8101", 'HOSTS="north.example.org"', "PICTURES=18100"],
+        )
     with open(here.path("etc/systemd/system/vtserve@north.service.d/memory.conf"), encoding="utf-8") as file:
         cases.show("maps: its limit", file.read(), "[Service]\nMemoryMax=512M\n")
     cases.show("maps: a map that is there", here.maps("add", "north"), (1, ["there is a map north already"]))
@@ -157,8 +180,11 @@ def commands(cases, here):
                (1, ["north.example.org is a name of the map north"]))
     cases.show("maps: a port of another map", here.maps("add", "south", "--port", "8101")[0], 1)
     here.calls()
-    cases.show("maps: the next ports", (here.maps("add", "south", "--sectors", "64")[1][0].split()[1:], here.maps()[1][1].split(":")[0]),
-               (["is", "formatted,", "64", "sectors"], "south"))
+    cases.show(
+        "maps: the next ports",
+        (here.maps("add", "south", "--sectors", "64")[1][0].split()[1:], here.maps()[1][1].split(":")[0]),
+        (["is", "formatted,", "64", "sectors"], "south"),
+    )
     with open(here.path("etc/vtserve/maps/south"), encoding="utf-8") as file:
         cases.show("maps: they are free ones", file.read().splitlines()[1:3], ["PORT=8102", "GATEWAY=8103"])
     with open(here.path("etc/vtserve/maps/south~"), "w", encoding="utf-8"):
@@ -167,10 +193,22 @@ def commands(cases, here):
     cases.show("maps: a map that isn't there", here.maps("remove", "west"), (1, ["there is no map west"]))
     here.calls()
     for name in ("north", "south"):
-        cases.show(f"maps: vtmap maps remove {name}", here.maps("remove", name),
-                   (0, [f"{name} is removed. Its disk is kept: {here.path('var/lib/vtserve', name, 'map.disk')}"]))
-    cases.show("maps: what that runs", here.calls(), ["--quiet is-active vtserve-nginx.service", STOPPED.format("north"), "daemon-reload",
-                                                      "--quiet is-active vtserve-nginx.service", STOPPED.format("south")])
+        cases.show(
+            f"maps: vtmap maps remove {name}",
+            here.maps("remove", name),
+            (0, [f"{name} is removed. Its disk is kept: {here.path('var/lib/vtserve', name, 'map.disk')}"]),
+        )
+    cases.show(
+        "maps: what that runs",
+        here.calls(),
+        [
+            "--quiet is-active vtserve-nginx.service",
+            STOPPED.format("north"),
+            "daemon-reload",
+            "--quiet is-active vtserve-nginx.service",
+            STOPPED.format("south"),
+        ],
+    )
     left = sorted(os.listdir(here.path("etc/vtserve/maps"))) + os.listdir(here.path("etc/systemd/system"))
     with open(os.path.join(here.kept, "enabled"), "w", encoding="ascii"):
         here.calls()
@@ -185,18 +223,35 @@ def commands(cases, here):
 def all_maps(cases, here, url):
     """One watch of all maps, which says of each what the watch of that map says."""
     kept = here.path("var/lib/vtserve-watch/{map}")
-    words = ["watch", "--maps", "--url", url + "/{map}", "--state", kept + "/all.state", "--metrics", kept + "/all.prom"]
+    words = [
+        "watch",
+        "--maps",
+        "--url",
+        url + "/{map}",
+        "--state",
+        kept + "/all.state",
+        "--metrics",
+        kept + "/all.prom",
+    ]
     found = here.vtmap(*words)
     cases.show("maps: one watch of all", found, (0, ["3 maps: nothing to do"]))
     with open(here.path("var/lib/vtserve-watch/south/all.prom"), encoding="utf-8") as file:
         cases.show("maps: the metrics of each", 'vtserve_up{map="south"} 1' in file.read(), True)
     os.makedirs(here.path("var/backups/vtserve/east"), exist_ok=True)
-    shutil.copy(here.path("etc/vtserve/maps/east"), os.path.join(here.path("var/backups/vtserve/east"), "map-2026-12-01.jsonl"))
+    shutil.copy(
+        here.path("etc/vtserve/maps/east"), os.path.join(here.path("var/backups/vtserve/east"), "map-2026-12-01.jsonl")
+    )
     code, lines = here.vtmap(*words, "--backups", here.path("var/backups/vtserve/{map}"))
     said = [f"{name}: {here.path('var/backups/vtserve', name)} has no backup" for name in ("north", "south")]
-    cases.show("maps: what is to be done about each", (code, [line.partition(": is")[0] for line in lines]), (1, [*said, "1 map: nothing to do"]))
+    cases.show(
+        "maps: what is to be done about each",
+        (code, [line.partition(": is")[0] for line in lines]),
+        (1, [*said, "1 map: nothing to do"]),
+    )
     code, lines = here.vtmap(*words, "--gateway", "http://127.0.0.1:{gateways}")
-    cases.show("maps: words that can't be meant", (code, "{map}, {port} and {gateway} can be named" in lines[-1]), (2, True))
+    cases.show(
+        "maps: words that can't be meant", (code, "{map}, {port} and {gateway} can be named" in lines[-1]), (2, True)
+    )
     with tempfile.TemporaryDirectory() as none:
         child = subprocess.run([*VTMAP, "watch", "--maps", "--root", none], capture_output=True, text=True)
         cases.show("maps: a watch of no map", (child.returncode, child.stdout), (0, "0 maps: nothing to do\n"))
@@ -209,48 +264,107 @@ def addresses(cases, here, front):
     for path, number in (("/north", 1), ("/south", 2), ("/east", 3), ("", 4)):
         reply = answered(f"{url}{path}/features/{number}", "-X", "PUT", status=400)
         cases.show(f"maps: {path or '/'} has a server", status_of(reply), 400)
-        cases.show(f"maps: an edit of {path or '/'}", curl(f"{url}{path}/features/{number}", "-X", "PUT", body=feature(f"of{number}"))[2], b'{"edit":1}')
-    found = {path: json.loads(curl(url + path + "/admin/features/page/0")[2])["features"][0]["id"] for path in ("/north", "/south", "/east", "")}
+        cases.show(
+            f"maps: an edit of {path or '/'}",
+            curl(f"{url}{path}/features/{number}", "-X", "PUT", body=feature(f"of{number}"))[2],
+            b'{"edit":1}',
+        )
+    found = {
+        path: json.loads(curl(url + path + "/admin/features/page/0")[2])["features"][0]["id"]
+        for path in ("/north", "/south", "/east", "")
+    }
     cases.show("maps: each has its own", found, {"/north": 1, "/south": 2, "/east": 3, "": 4})
-    cases.show("maps: by its host name", json.loads(curl(url + "/admin/features/page/0", *north)[2])["features"][0]["id"], 1)
+    cases.show(
+        "maps: by its host name", json.loads(curl(url + "/admin/features/page/0", *north)[2])["features"][0]["id"], 1
+    )
     cases.show("maps: a host name of none", status_of(curl(url + "/map/metadata", "-H", "Host: west.example.org")), 421)
     for again in ("", " again"):
-        tiles = [curl(f"{url}{path}/map/0/0/0.mvt", *words)[2] for path, words in (("/north", ()), ("/south", ()), ("", north), ("", ()))]
-        wanted = [bytes.fromhex(TILE).replace(b"\x1a\x13\x0a\x01p\x12", b"\x1a\x15\x0a\x03of%d\x12" % number).replace(b"\x08\x07", b"\x08%c" % number)
-                  for number in (1, 2, 1, 4)]
+        tiles = [
+            curl(f"{url}{path}/map/0/0/0.mvt", *words)[2]
+            for path, words in (("/north", ()), ("/south", ()), ("", north), ("", ()))
+        ]
+        wanted = [
+            bytes.fromhex(TILE)
+            .replace(b"\x1a\x13\x0a\x01p\x12", b"\x1a\x15\x0a\x03of%d\x12" % number)
+            .replace(b"\x08\x07", b"\x08%c" % number)
+            for number in (1, 2, 1, 4)
+        ]
         cases.show(f"maps: a tile of each{again}, by nginx's cache", tiles, wanted)
-    paths = ["/north//map/0/0/0.mvt", "/north/south/map/0/0/0.mvt", "/west/map/0/0/0.mvt", "/north/map.json/", "/northern/map/0/0/0.mvt"]
+    paths = [
+        "/north//map/0/0/0.mvt",
+        "/north/south/map/0/0/0.mvt",
+        "/west/map/0/0/0.mvt",
+        "/north/map.json/",
+        "/northern/map/0/0/0.mvt",
+    ]
     cases.show("maps: paths of none", [status_of(curl(url + path)) for path in paths], [404] * len(paths))
     foreign = ["-X", "PUT", "-H", "Origin: http://other.example"]
-    found = [status_of(curl(url + path + "/features/1", *foreign, *words, body=feature())) for path, words in (("/north", ()), ("", north), ("", ()))]
+    found = [
+        status_of(curl(url + path + "/features/1", *foreign, *words, body=feature()))
+        for path, words in (("/north", ()), ("", north), ("", ()))
+    ]
     cases.show("maps: an edit of a page of another origin", found, [403] * 3)
     for path, words, place in (("/north", (), f"{url}/north"), ("", north, "http://north.example.org"), ("", (), url)):
         found = json.loads(curl(url + path + "/map.json", *words)[2])
-        cases.show(f"maps: TileJSON of {place}", (found["tiles"], "bounds" in found), ([place + "/map/{z}/{x}/{y}.mvt"], False))
+        cases.show(
+            f"maps: TileJSON of {place}", (found["tiles"], "bounds" in found), ([place + "/map/{z}/{x}/{y}.mvt"], False)
+        )
     for path, words in (("/north", ()), ("", north), ("", ())):
         page = curl(f"{url}{path}/pages/", *words)
         moved = [field(curl(url + path + end, *words), "location") for end in ("/", "/pages")]
-        cases.show(f"maps: the page of {path or words}", (status_of(page), b"page.js" in page[2], moved), (200, True, [path + "/pages/"] * 2))
+        cases.show(
+            f"maps: the page of {path or words}",
+            (status_of(page), b"page.js" in page[2], moved),
+            (200, True, [path + "/pages/"] * 2),
+        )
     state = here.path("var/lib/vtserve-watch/north")
     os.makedirs(state)
     words = [*VTMAP, "publish", "--url", url + "/north", "--record", os.path.join(state, "published")]
     publication = subprocess.run(words, capture_output=True, text=True)
-    cases.show("maps: vtmap by the address of a map", (publication.returncode, publication.stdout.splitlines()[-1:]), (0, ["published"]))
+    cases.show(
+        "maps: vtmap by the address of a map",
+        (publication.returncode, publication.stdout.splitlines()[-1:]),
+        (0, ["published"]),
+    )
     parts = [curl(url + path + "/map.pmtiles", "-H", "Range: bytes=0-6") for path in ("/north", "/south")]
-    cases.show("maps: the archive of each", [(status_of(part), part[2]) for part in parts], [(206, b"PMTiles"), (404, b"NotFound\n")])
-    child = subprocess.run(["systemctl", "start", "vtserve-watch@north.service"], env=here.words, capture_output=True, text=True)
+    cases.show(
+        "maps: the archive of each",
+        [(status_of(part), part[2]) for part in parts],
+        [(206, b"PMTiles"), (404, b"NotFound\n")],
+    )
+    child = subprocess.run(
+        ["systemctl", "start", "vtserve-watch@north.service"], env=here.words, capture_output=True, text=True
+    )
     said = f"{here.path('var/backups/vtserve/north')} has no backup"
-    cases.show("maps: the watch of a map", (child.returncode, said in child.stdout or child.stdout + child.stderr), (1, True))
+    cases.show(
+        "maps: the watch of a map", (child.returncode, said in child.stdout or child.stdout + child.stderr), (1, True)
+    )
     with open(os.path.join(state, "vtserve.prom"), encoding="utf-8") as file:
-        cases.show("maps: its metrics", [line for line in file.read().splitlines() if line.startswith("vtserve_features")], ['vtserve_features{map="north"} 1'])
+        cases.show(
+            "maps: its metrics",
+            [line for line in file.read().splitlines() if line.startswith("vtserve_features")],
+            ['vtserve_features{map="north"} 1'],
+        )
     all_maps(cases, here, url)
     links = {link["rel"]: link["href"] for link in json.loads(answered(url + "/north/ogc/")[2])["links"]}
     cases.show("maps: its gateway knows the path", links["data"], f"{url}/north/ogc/collections")
-    cases.show("maps: a map without a gateway, and without pictures", [status_of(curl(url + path)) for path in ("/south/ogc/", "/south/xyz/0/0/0.png")], [502] * 2)
+    cases.show(
+        "maps: a map without a gateway, and without pictures",
+        [status_of(curl(url + path)) for path in ("/south/ogc/", "/south/xyz/0/0/0.png")],
+        [502] * 2,
+    )
     if has_cairo(cases):
         drawn(cases, here, front)
-    logs = {name: open(os.path.join(front.folder, name), encoding="utf-8").read().count("\n") for name in sorted(os.listdir(front.folder)) if "edits" in name}
-    cases.show("maps: a log of the edits of each", logs, {"edits-east.log": 1, "edits-north.log": 1, "edits-south.log": 1, "edits.log": 1})
+    logs = {
+        name: open(os.path.join(front.folder, name), encoding="utf-8").read().count("\n")
+        for name in sorted(os.listdir(front.folder))
+        if "edits" in name
+    }
+    cases.show(
+        "maps: a log of the edits of each",
+        logs,
+        {"edits-east.log": 1, "edits-north.log": 1, "edits-south.log": 1, "edits.log": 1},
+    )
 
 
 def drawn(cases, here, front):
@@ -258,9 +372,16 @@ def drawn(cases, here, front):
     with open(here.path("etc/vtserve/maps/south"), encoding="utf-8") as file:
         ports = dict(line.rstrip().split("=") for line in file if line.startswith(("PORT=", "PICTURES=")))
     with Drawer(here.root, f"http://127.0.0.1:{ports['PORT']}", port=ports["PICTURES"]):
-        seen = [status_of(curl(f"{front.url}{path}")) for path in ("/south/xyz/0/0/0.png", "/south/wmts/1.0.0/map/default/GoogleMapsCompatible/0/0/0.png")]
+        seen = [
+            status_of(curl(f"{front.url}{path}"))
+            for path in ("/south/xyz/0/0/0.png", "/south/wmts/1.0.0/map/default/GoogleMapsCompatible/0/0/0.png")
+        ]
         told = curl(front.url + "/south/wmts/1.0.0/WMTSCapabilities.xml")[2].decode()
-        cases.show("maps: its pictures, and where they say that they are", (seen, f'"{front.url}/south/wmts?"' in told), ([200, 200], True))
+        cases.show(
+            "maps: its pictures, and where they say that they are",
+            (seen, f'"{front.url}/south/wmts?"' in told),
+            ([200, 200], True),
+        )
 
 
 def boxes(cases, here, front):
@@ -277,16 +398,32 @@ def boxes(cases, here, front):
         return found
 
     wrong = ["7.2,54.3,7.9", "a,b,c,d", "7.9,54.3,7.2,54.8", "7.2,54.8,7.9,54.3", "-181,0,0,1", "0,0,1,86", "nan,0,1,1"]
-    cases.show("maps: boxes that are none", [here.maps("bounds", "south", "--bounds=" + text)[0] for text in wrong], [2] * len(wrong))
+    cases.show(
+        "maps: boxes that are none",
+        [here.maps("bounds", "south", "--bounds=" + text)[0] for text in wrong],
+        [2] * len(wrong),
+    )
     cases.show("maps: the box of a map that isn't there", here.maps("bounds", "west")[0], 1)
     with open(here.path("etc/vtserve/maps/south"), "a", encoding="utf-8") as file:
         file.write("VTSERVE_PAUSE=5\n")
     # A box of 0.7 degrees is 1/514 of the world's width: nine halvings.
-    cases.show("maps: a box", here.maps("bounds", "south", "--bounds=-7.2,54.3,-6.5,54.8"), (0, ["south: bounds -7.2,54.3,-6.5,54.8"]))
-    cases.show("maps: its TileJSON has it", tilejson(([-7.2, 54.3, -6.5, 54.8], [-6.85, 54.55, 9])), ([-7.2, 54.3, -6.5, 54.8], [-6.85, 54.55, 9]))
+    cases.show(
+        "maps: a box",
+        here.maps("bounds", "south", "--bounds=-7.2,54.3,-6.5,54.8"),
+        (0, ["south: bounds -7.2,54.3,-6.5,54.8"]),
+    )
+    cases.show(
+        "maps: its TileJSON has it",
+        tilejson(([-7.2, 54.3, -6.5, 54.8], [-6.85, 54.55, 9])),
+        ([-7.2, 54.3, -6.5, 54.8], [-6.85, 54.55, 9]),
+    )
     with open(here.path("etc/vtserve/maps/south"), encoding="utf-8") as file:
         lines = [line for line in file.read().splitlines()[3:] if not line.startswith("PICTURES=")]
-        cases.show("maps: its file, with what was added to it", lines, ['HOSTS=""', "VTSERVE_PAUSE=5", "BOUNDS=-7.2,54.3,-6.5,54.8"])
+        cases.show(
+            "maps: its file, with what was added to it",
+            lines,
+            ['HOSTS=""', "VTSERVE_PAUSE=5", "BOUNDS=-7.2,54.3,-6.5,54.8"],
+        )
     cases.show("maps: no box any more", here.maps("bounds", "south"), (0, ["south: no bounds"]))
     cases.show("maps: nor has its TileJSON", tilejson((None, None)), (None, None))
 
@@ -302,16 +439,26 @@ def fates(cases, here, front):
 
     before = states("south", "east")
     os.kill(here.process("vtserve@north.service"), signal.SIGKILL)
-    cases.show("maps: one is killed", (status_of(curl(url + "/north/features/1")), states("south", "east") == before), (502, True))
+    cases.show(
+        "maps: one is killed",
+        (status_of(curl(url + "/north/features/1")), states("south", "east") == before),
+        (502, True),
+    )
     cases.show("maps: its tile is served from nginx's cache", status_of(curl(url + "/north/map/0/0/0.mvt")), 200)
-    cases.show("maps: vtmap maps lists it", (here.maps()[0], [line.split(": ")[0] + line[-6:] for line in here.maps()[1]]), (
-        3, ["easttion 0", "northanswer", "southtion 0"]))
+    cases.show(
+        "maps: vtmap maps lists it",
+        (here.maps()[0], [line.split(": ")[0] + line[-6:] for line in here.maps()[1]]),
+        (3, ["easttion 0", "northanswer", "southtion 0"]),
+    )
     subprocess.run(["systemctl", "enable", "--now", "vtserve@north.service"], env=here.words)
     reply = answered(url + "/north/features/1")
     cases.show("maps: it is started again, and has its edits", status_of(reply), 200)
     number, reply = 100, None
     while reply is None or status_of(reply) == 200:
-        reply, number = curl(f"{url}/south/features/{number}", "-X", "PUT", body=feature(tags={"text": "x" * 900})), number + 1
+        reply, number = (
+            curl(f"{url}/south/features/{number}", "-X", "PUT", body=feature(tags={"text": "x" * 900})),
+            number + 1,
+        )
     cases.show("maps: one is full", (status_of(reply), reply[2].split()[0]), (507, b"JournalFull"))
     edits = [curl(f"{url}/{name}/features/9", "-X", "PUT", body=feature()) for name in ("north", "east")]
     cases.show("maps: others take edits", [status_of(edit) for edit in edits], [200, 200])
@@ -342,10 +489,23 @@ def maps(cases: Cases, folder: str) -> None:
         place = os.path.join(folder, "front")
         os.mkdir(place)
         with Server(place, "one.disk", 4096) as one:
-            with Nginx(program, place, one, [("127.0.0.1:8001", f"127.0.0.1:{free_port()}"), ("alias pages/;", f"alias {TOP}/web/;")]) as front:
+            with Nginx(
+                program,
+                place,
+                one,
+                [("127.0.0.1:8001", f"127.0.0.1:{free_port()}"), ("alias pages/;", f"alias {TOP}/web/;")],
+            ) as front:
                 here.has_front(program, front)
-                told = [here.add("north", "--host", "north.example.org", "--wfs"), here.add("south"), here.add("east", "--front", front.url)]
-                cases.show("maps: three maps are added", ([code for code, _ in told], told[2][1][1]), ([0, 0, 0], f"east: {front.url}/east/"))
+                told = [
+                    here.add("north", "--host", "north.example.org", "--wfs"),
+                    here.add("south"),
+                    here.add("east", "--front", front.url),
+                ]
+                cases.show(
+                    "maps: three maps are added",
+                    ([code for code, _ in told], told[2][1][1]),
+                    ([0, 0, 0], f"east: {front.url}/east/"),
+                )
                 addresses(cases, here, front)
                 boxes(cases, here, front)
                 fates(cases, here, front)

@@ -191,7 +191,9 @@ def without_room(cases: Cases, folder: str) -> None:
             folder, "names.csv", f"{head},lon,lat\n" + "".join("1," * 19 + f"{at / 1000},50\n" for at in range(600))
         )
         code, lines = imported(path, server.url, "--layer", "w", "--minzoom", "14")
-        said = "after 512 of 600 features, with 1,534 sectors of an area: the journal has 1,024 of its 1,024 sectors free"
+        said = (
+            "after 512 of 600 features, with 1,534 sectors of an area: the journal has 1,024 of its 1,024 sectors free"
+        )
         said += ": give --publish: nothing was sent"
         cases.show("short files: no room in the journal", (code, lines[-1]), (1, said))
         cases.show("short files: nothing of it was sent", status(server)["edits"], 0)

@@ -17,7 +17,9 @@ Expected = tuple[int, list[tuple[str, str]], bytes]
 
 HERE = os.path.dirname(os.path.abspath(__file__))
 TOP = os.path.join(HERE, "..", "..")
-PROGRAM = os.path.abspath(sys.argv[1] if len(sys.argv) > 1 else os.path.join(TOP, "crates", "vtserve", "out", "vtserve"))
+PROGRAM = os.path.abspath(
+    sys.argv[1] if len(sys.argv) > 1 else os.path.join(TOP, "crates", "vtserve", "out", "vtserve")
+)
 EXAMPLES = os.path.join(TOP, "examples")
 VTMAP = [sys.executable, os.path.join(TOP, "bin", "vtmap")]
 SYSTEM_PYTHON = "/usr/bin/python3"
@@ -25,7 +27,12 @@ TILE = "1a130a017012090807180122030900002880207802"
 SHOWN = '{"geometry":{"points":[[0,0]]},"layer":"p","maxzoom":2,"minzoom":0,"tags":{}}'
 METADATA = '{"vector_layers":[{"fields":{},"id":"p","maxzoom":2,"minzoom":0}]}'
 ROOT = bytes.fromhex("020005020115150101")
-JSON, TEXT, MVT, BYTES = "application/json", "text/plain", "application/vnd.mapbox-vector-tile", "application/octet-stream"
+JSON, TEXT, MVT, BYTES = (
+    "application/json",
+    "text/plain",
+    "application/vnd.mapbox-vector-tile",
+    "application/octet-stream",
+)
 PHRASES = {
     200: "OK",
     204: "No Content",
@@ -45,13 +52,24 @@ PHRASES = {
 HALF = 20037508.342789244
 
 
-def feature(layer: str = "p", first: int = 0, last: int = 2, geometry: Optional[dict] = None, tags: Optional[dict] = None) -> str:
+def feature(
+    layer: str = "p", first: int = 0, last: int = 2, geometry: Optional[dict] = None, tags: Optional[dict] = None
+) -> str:
     """The body of a PUT."""
-    return json.dumps({"layer": layer, "minzoom": first, "maxzoom": last, "geometry": geometry or {"points": [[0, 0]]}, "tags": tags or {}})
+    return json.dumps(
+        {
+            "layer": layer,
+            "minzoom": first,
+            "maxzoom": last,
+            "geometry": geometry or {"points": [[0, 0]]},
+            "tags": tags or {},
+        }
+    )
 
 
 def archive() -> bytes:
-    """The archive of the map with the worked point alone: three tiles of one content, by FORMATS.md and the standard of PMTiles 3."""
+    """The archive of the map with the worked point alone: three tiles of one content, by FORMATS.md and the standard
+    of PMTiles 3."""
     metadata, tile = METADATA.encode(), bytes.fromhex(TILE)
     at = [127, 127 + len(ROOT), 127 + len(ROOT) + len(metadata)]
     places = [at[0], len(ROOT), at[1], len(metadata), at[2], 0, at[2], len(tile)]
@@ -89,14 +107,36 @@ def free_port() -> int:
 class Server:
     """A process of `serve`, on a disk that is made for it if there is none."""
 
-    def __init__(self, folder: str, name: str, sectors: int = 4096, connections: int = 4294967295, port: Optional[int] = None, more: Iterable[str] = ("--admin",), log: Optional[str] = None, under: Iterable[str] = ()) -> None:
+    def __init__(
+        self,
+        folder: str,
+        name: str,
+        sectors: int = 4096,
+        connections: int = 4294967295,
+        port: Optional[int] = None,
+        more: Iterable[str] = ("--admin",),
+        log: Optional[str] = None,
+        under: Iterable[str] = (),
+    ) -> None:
         self.disk = os.path.join(folder, name)
         if not os.path.exists(self.disk):
-            subprocess.run([PROGRAM, "format", self.disk, "--sectors", str(sectors)], check=True, stdout=subprocess.DEVNULL)
+            subprocess.run(
+                [PROGRAM, "format", self.disk, "--sectors", str(sectors)], check=True, stdout=subprocess.DEVNULL
+            )
         self.port = port or free_port()
         self.url = f"http://127.0.0.1:{self.port}"
         self.log = open(log or self.disk + ".log", "w+b")
-        words = [*under, PROGRAM, "serve", self.disk, "--port", str(self.port), "--connections", str(connections), *more]
+        words = [
+            *under,
+            PROGRAM,
+            "serve",
+            self.disk,
+            "--port",
+            str(self.port),
+            "--connections",
+            str(connections),
+            *more,
+        ]
         self.child = subprocess.Popen(words, stdout=subprocess.PIPE, stderr=self.log)
         self.told = self.child.stdout.readline().decode()
 
@@ -132,7 +172,11 @@ def curl(url: str, *words: str, body: Optional[str] = None) -> Reply:
     """What curl reads: the first line, the fields and the content."""
     if body is not None:
         words = (*words, "--data-binary", "@-")
-    child = subprocess.run(["curl", "--silent", "--include", "--max-time", "120", *words, url], input=body and body.encode(), capture_output=True)
+    child = subprocess.run(
+        ["curl", "--silent", "--include", "--max-time", "120", *words, url],
+        input=body and body.encode(),
+        capture_output=True,
+    )
     return parsed(child.stdout) if child.returncode == 0 else (f"curl ended with {child.returncode}", [], b"")
 
 
@@ -141,7 +185,13 @@ def status_of(reply: Reply) -> Union[int, str]:
     return int(reply[0].split()[1]) if reply[0].startswith("HTTP/1.") else reply[0]
 
 
-def wanted(status: int, kind: Optional[str] = None, content: Union[str, bytes] = "", closes: bool = False, more: Iterable[tuple[str, str]] = ()) -> Expected:
+def wanted(
+    status: int,
+    kind: Optional[str] = None,
+    content: Union[str, bytes] = "",
+    closes: bool = False,
+    more: Iterable[tuple[str, str]] = (),
+) -> Expected:
     """The reply that HTTP.md promises, its fields in their order."""
     content = content if isinstance(content, bytes) else content.encode()
     fields = [("content-type", kind)] if kind else []
@@ -165,10 +215,17 @@ def refusal(status: int, word: str, closes: bool = False, more: Iterable[tuple[s
 
 
 class Nginx:
-    """nginx with the kept configuration, but for its ports and further changes, in front of a server. `unit`: the umask and the user of the workers,
-    whose group its folder has then, and nobody else may enter it."""
+    """nginx with the kept configuration, but for its ports and further changes, in front of a server. `unit`: the
+    umask and the user of the workers, whose group its folder has then, and nobody else may enter it."""
 
-    def __init__(self, program: str, folder: str, server: Any, changes: Iterable[tuple[str, str]] = (), unit: Optional[tuple[int, Optional[str]]] = None) -> None:
+    def __init__(
+        self,
+        program: str,
+        folder: str,
+        server: Any,
+        changes: Iterable[tuple[str, str]] = (),
+        unit: Optional[tuple[int, Optional[str]]] = None,
+    ) -> None:
         self.folder = os.path.join(folder, "nginx")
         os.mkdir(self.folder)
         mask, user = unit or (-1, None)
@@ -179,8 +236,12 @@ class Nginx:
         self.url = f"http://127.0.0.1:{self.port}"
         with open(os.path.join(TOP, "docs", "nginx.conf"), encoding="utf-8") as file:
             kept = file.read()
-        used = kept.replace("server 127.0.0.1:8080;", f"server 127.0.0.1:{server.port};").replace("listen 8000", f"listen 127.0.0.1:{self.port}")
-        used = used.replace("listen [::]:8000", f"listen [::1]:{self.port}").replace("127.0.0.1:8001;", f"127.0.0.1:{free_port()};")
+        used = kept.replace("server 127.0.0.1:8080;", f"server 127.0.0.1:{server.port};").replace(
+            "listen 8000", f"listen 127.0.0.1:{self.port}"
+        )
+        used = used.replace("listen [::]:8000", f"listen [::1]:{self.port}").replace(
+            "127.0.0.1:8001;", f"127.0.0.1:{free_port()};"
+        )
         for before, after in changes:
             used = used.replace(before, after)
         path = os.path.join(self.folder, "used.conf")

@@ -1,5 +1,6 @@
-"""The parts `standby` and `long-follow` of run.py: `vtmap follow` from a server to two standbys and a log, while each of them is killed, replies are
-lost and the map is published. A standby has each edit under the same number, and its features byte for byte."""
+"""The parts `standby` and `long-follow` of run.py: `vtmap follow` from a server to two standbys and a log, while
+each of them is killed, replies are lost and the map is published. A standby has each edit under the same number, and
+its features byte for byte."""
 import atexit
 import http.client
 import itertools
@@ -24,7 +25,8 @@ AT = "/admin/edits/at/"
 
 
 class Editor:
-    """Whoever edits a server: one request after the other, each sent again after a fault until it is seen what became of it."""
+    """Whoever edits a server: one request after the other, each sent again after a fault until it is seen what
+    became of it."""
 
     def __init__(self, port, seed=1):
         self.port, self.random, self.connection = port, random.Random(seed), None
@@ -47,17 +49,30 @@ class Editor:
     def feature(self):
         """Some feature."""
         place = [self.random.randrange(2**32), self.random.randrange(2**32)]
-        geometry = {"points": [place]} if self.random.random() < 0.8 else {"lines": [[place, [place[0] ^ 1023, place[1] ^ 511]] * 20]}
-        tags = {"name": self.random.choice(["Brücke", "a\u0001b", "\"\\", "x" * 900]), "n": self.random.choice([True, 7, -3, 2**64 - 1])}
+        geometry = (
+            {"points": [place]}
+            if self.random.random() < 0.8
+            else {"lines": [[place, [place[0] ^ 1023, place[1] ^ 511]] * 20]}
+        )
+        tags = {
+            "name": self.random.choice(["Brücke", "a\u0001b", '"\\', "x" * 900]),
+            "n": self.random.choice([True, 7, -3, 2**64 - 1]),
+        }
         return {"layer": self.random.choice("pqr"), "minzoom": 0, "maxzoom": 9, "geometry": geometry, "tags": tags}
 
     def changes(self):
         """The changes of some edit: one, or several."""
         ids = self.random.sample(range(1, 400), self.random.choice([1, 1, 1, 5, 60]))
-        return [{"delete": number} if number in self.there and self.random.random() < 0.3 else {"put": number, "feature": self.feature()} for number in ids]
+        return [
+            {"delete": number}
+            if number in self.there and self.random.random() < 0.3
+            else {"put": number, "feature": self.feature()}
+            for number in ids
+        ]
 
     def edit(self):
-        """Makes some edit under the next number, however often it has to be sent. Returns whether the journal had no room for it."""
+        """Makes some edit under the next number, however often it has to be sent. Returns whether the journal had no
+        room for it."""
         changes, number = self.changes(), len(self.acknowledged) + 1
         body = json.dumps({"changes": changes})
         while True:
@@ -69,7 +84,9 @@ class Editor:
             if status is not None:
                 raise AssertionError((status, content))
             time.sleep(0.05)
-        self.acknowledged[number] = {change.get("put", change.get("delete")): change.get("feature") for change in changes}
+        self.acknowledged[number] = {
+            change.get("put", change.get("delete")): change.get("feature") for change in changes
+        }
         self.there |= {change["put"] for change in changes if "put" in change}
         self.there -= {change["delete"] for change in changes if "delete" in change}
         return False
@@ -98,7 +115,9 @@ def copied(source, folder, name):
 
 def follow(url, *words):
     """A process of `vtmap follow`, whose lines are read once it has ended. It ends with this process at the latest."""
-    child = subprocess.Popen([*VTMAP, "follow", "--url", url, *words], stdout=subprocess.PIPE, stderr=subprocess.STDOUT, text=True)
+    child = subprocess.Popen(
+        [*VTMAP, "follow", "--url", url, *words], stdout=subprocess.PIPE, stderr=subprocess.STDOUT, text=True
+    )
     atexit.register(child.kill)
     return child
 
@@ -120,13 +139,16 @@ def waited(what, seconds=180.0):
 
 
 def log_of(path):
-    """The edits of a log by their numbers: what they put, None for what they delete; the line of an edit that is there twice, or missing."""
+    """The edits of a log by their numbers: what they put, None for what they delete; the line of an edit that is
+    there twice, or missing."""
     found = {}
     with open(path, encoding="utf-8") as file:
         for row in map(json.loads, file):
             if row.get("edit", None) in found or "missed" in row:
                 return row
-            found[row["edit"]] = {change.get("put", change.get("delete")): change.get("feature") for change in row["changes"]}
+            found[row["edit"]] = {
+                change.get("put", change.get("delete")): change.get("feature") for change in row["changes"]
+            }
     return found
 
 
@@ -144,7 +166,8 @@ def has_was(path):
 
 
 def basics(cases: Cases, folder: str) -> None:
-    """Two standbys and a log, within a second; lost replies; a standby that somebody else edits; a server behind a proxy that restarts."""
+    """Two standbys and a log, within a second; lost replies; a standby that somebody else edits; a server behind a
+    proxy that restarts."""
     with Server(folder, "leader", 65536) as leader:
         editor, log = Editor(leader.port), os.path.join(folder, "edits.jsonl")
         editor.edit()
@@ -162,8 +185,14 @@ def basics(cases: Cases, folder: str) -> None:
             # Half a second where the machine has time for it.
             cases.show("standby: an edit is at both soon", sorted(took)[5] < 5 or sorted(took), True)
             cases.say(f"standby: {sorted(took)[5]:.2f} s in the median, {max(took):.2f} s at most")
-            cases.show("standby: the features of both, byte for byte", features(one) == features(two) == features(leader), True)
-            cases.show("standby: the log has each edit since", log_of(log) == {number: editor.acknowledged[number] for number in range(2, 12)}, True)
+            cases.show(
+                "standby: the features of both, byte for byte", features(one) == features(two) == features(leader), True
+            )
+            cases.show(
+                "standby: the log has each edit since",
+                log_of(log) == {number: editor.acknowledged[number] for number in range(2, 12)},
+                True,
+            )
             child.terminate()
             child.communicate()
             watched(cases, leader, one, editor)
@@ -175,7 +204,11 @@ def basics(cases: Cases, folder: str) -> None:
 def watched(cases, leader, standby, editor):
     """`vtmap watch --standby`."""
     def seen():
-        child = subprocess.run([*VTMAP, "watch", "--url", leader.url, "--standby", standby.url, "--wait", "0.2"], capture_output=True, text=True)
+        child = subprocess.run(
+            [*VTMAP, "watch", "--url", leader.url, "--standby", standby.url, "--wait", "0.2"],
+            capture_output=True,
+            text=True,
+        )
         return child.returncode, "has edits up to 11, and the server had 12 of them" in child.stdout
 
     found = seen()
@@ -194,7 +227,10 @@ def lost(cases, leader, standby, editor):
             asked.append(path)
         return method == "POST" and path.startswith(AT) and len(asked) % 3 == 0
 
-    for name, words in (("after it was made", {"loses": counted}), ("before", {"instead": lambda *at: (0, b"") if counted(*at) else None})):
+    for name, words in (
+        ("after it was made", {"loses": counted}),
+        ("before", {"instead": lambda *at: (0, b"") if counted(*at) else None}),
+    ):
         with Between(standby, **words) as between:
             child = follow(leader.url, "--to", between.url, "--every", "0.05")
             has_all = waited(lambda: known(standby)["edits"] == len(editor.acknowledged))
@@ -205,10 +241,18 @@ def lost(cases, leader, standby, editor):
         for _ in range(30):
             editor.edit()
     code, lines = once(leader.url, "--to", standby.url)
-    cases.show("standby: --once", (code, lines[0].split(" from edit ")[-1], known(standby)["edits"]), (0, "73 on", len(editor.acknowledged)))
+    cases.show(
+        "standby: --once",
+        (code, lines[0].split(" from edit ")[-1], known(standby)["edits"]),
+        (0, "73 on", len(editor.acknowledged)),
+    )
     with Between(leader, instead=lambda *_: (502, b"<html><title>502 Bad Gateway</title></html>")) as between:
         code, lines = once(between.url, "--to", standby.url)
-    cases.show("standby: a proxy whose server is away is waited for", (code, lines[-1].endswith(": 502 502 Bad Gateway")), (3, True))
+    cases.show(
+        "standby: a proxy whose server is away is waited for",
+        (code, lines[-1].endswith(": 502 502 Bad Gateway")),
+        (3, True),
+    )
 
 
 def foreign(cases, leader, standby, editor):
@@ -217,10 +261,16 @@ def foreign(cases, leader, standby, editor):
     curl(standby.url + "/features/9", "-X", "PUT", body=feature())
     editor.edit()
     code, lines = once(leader.url, "--to", standby.url)
-    cases.show("standby: an edit by somebody else is found", (code, "was edited by somebody else" in lines[-1]), (1, True))
+    cases.show(
+        "standby: an edit by somebody else is found", (code, "was edited by somebody else" in lines[-1]), (1, True)
+    )
     curl(standby.url + "/features/9", "-X", "DELETE")
     code, lines = once(leader.url, "--to", standby.url)
-    cases.show("standby: also if it has more edits", (code, "it is another map, or was put back from a copy" in lines[-1]), (1, True))
+    cases.show(
+        "standby: also if it has more edits",
+        (code, "it is another map, or was put back from a copy" in lines[-1]),
+        (1, True),
+    )
     with Server(os.path.dirname(leader.disk), "plain", more=()) as plain:
         code, lines = once(plain.url, "--to", leader.url)
         cases.show("standby: a server without --admin", (code, "it runs without --admin" in lines[-1]), (1, True))
@@ -236,14 +286,21 @@ def stopped(cases, leader, editor, log):
     time.sleep(2)
     is_waiting = publishing.poll() is None
     child.send_signal(signal.SIGCONT)
-    seen = is_waiting, publishing.wait(100), log_of(log) == {len(editor.acknowledged): editor.acknowledged[len(editor.acknowledged)]}
+    seen = (
+        is_waiting,
+        publishing.wait(100),
+        log_of(log) == {len(editor.acknowledged): editor.acknowledged[len(editor.acknowledged)]},
+    )
     child.terminate()
     child.communicate()
-    cases.show("standby: publish --log waits for a log whose follower has stopped, which misses nothing", seen, (True, 0, True))
+    cases.show(
+        "standby: publish --log waits for a log whose follower has stopped, which misses nothing", seen, (True, 0, True)
+    )
 
 
 def behind(cases: Cases, folder: str) -> None:
-    """Publications: with a pause nobody is left behind, without one a follower that was away is, and says what to do."""
+    """Publications: with a pause nobody is left behind, without one a follower that was away is, and says what to
+    do."""
     with Server(folder, "behind", 65536) as leader:
         editor, log = Editor(leader.port), os.path.join(folder, "behind.jsonl")
         editor.edit()
@@ -254,11 +311,29 @@ def behind(cases: Cases, folder: str) -> None:
             for _ in range(3):
                 for _ in range(40):
                     editor.edit()
-                told = subprocess.run([*VTMAP, "publish", "--url", leader.url, "--pause", "3"], capture_output=True, text=True)
-            cases.show("standby: publish --pause", (told.returncode, told.stdout.splitlines()[1]), (0, "waiting 3 s for who follows the edits"))
-            seen = waited(lambda: known(standby)["edits"] == len(editor.acknowledged)), features(standby) == features(leader), known(standby)["edits"]
-            cases.show("standby: three publications with a pause leave nobody behind", seen, (True, True, len(editor.acknowledged)))
-            cases.show("standby: and nothing out of the log", waited(lambda: len(log_of(log)) == len(editor.acknowledged) - 1), True)
+                told = subprocess.run(
+                    [*VTMAP, "publish", "--url", leader.url, "--pause", "3"], capture_output=True, text=True
+                )
+            cases.show(
+                "standby: publish --pause",
+                (told.returncode, told.stdout.splitlines()[1]),
+                (0, "waiting 3 s for who follows the edits"),
+            )
+            seen = (
+                waited(lambda: known(standby)["edits"] == len(editor.acknowledged)),
+                features(standby) == features(leader),
+                known(standby)["edits"],
+            )
+            cases.show(
+                "standby: three publications with a pause leave nobody behind",
+                seen,
+                (True, True, len(editor.acknowledged)),
+            )
+            cases.show(
+                "standby: and nothing out of the log",
+                waited(lambda: len(log_of(log)) == len(editor.acknowledged) - 1),
+                True,
+            )
             waits(cases, leader, standby, editor)
             waits_for_logs(cases, leader, log, editor)
             cases.show("standby: --publish publishes it too", waited(lambda: known(standby)["generation"] > 0), True)
@@ -268,7 +343,11 @@ def behind(cases: Cases, folder: str) -> None:
             curl(leader.url + "/publish", "-X", "POST")
             code, lines = once(leader.url, "--to", standby.url, "--log", log)
             told = [line for line in lines if "it has edits up to 122, and" in line]
-            cases.show("standby: one that was away is left behind", (code, len(told), "begin it anew from a copy" in " ".join(told).lower()), (1, 1, True))
+            cases.show(
+                "standby: one that was away is left behind",
+                (code, len(told), "begin it anew from a copy" in " ".join(told).lower()),
+                (1, 1, True),
+            )
             with open(log, encoding="utf-8") as file:
                 rows = [json.loads(line) for line in file]
             cases.show("standby: the log says what it misses, and goes on", rows[-1]["missed"], [123, 123])
@@ -276,10 +355,13 @@ def behind(cases: Cases, folder: str) -> None:
 
 
 def waits(cases, leader, standby, editor):
-    """A publication waits for a standby, and not for ever for one that doesn't answer; so does each command that publishes."""
+    """A publication waits for a standby, and not for ever for one that doesn't answer; so does each command that
+    publishes."""
     editor.edit()
     began = time.monotonic()
-    told = subprocess.run([*VTMAP, "publish", "--url", leader.url, "--standby", standby.url], capture_output=True, text=True)
+    told = subprocess.run(
+        [*VTMAP, "publish", "--url", leader.url, "--standby", standby.url], capture_output=True, text=True
+    )
     seen = told.returncode, told.stdout.splitlines()[1], told.stderr, time.monotonic() - began < 30
     cases.show("standby: publish --standby", seen, (0, f"waiting at most 60 s for {standby.url}", "", True))
     words = [*VTMAP, "publish", "--url", leader.url, "--standby", "http://127.0.0.1:1", "--pause", "1"]
@@ -376,7 +458,8 @@ class Stage:
 
 
 def long_follow(cases: Cases, folder: str) -> None:
-    """Ten thousand edits while each process is killed, and while the map is published: the numbers are equal, the features byte for byte."""
+    """Ten thousand edits while each process is killed, and while the map is published: the numbers are equal, the
+    features byte for byte."""
     place = os.path.join(folder, "long_follow")
     os.mkdir(place)
     stage, publications = Stage(place), []
@@ -407,18 +490,37 @@ def long_follow(cases: Cases, folder: str) -> None:
     one, other = known(stage.leader), known(stage.standby)
     cases.show("long-follow: the numbers are equal", (has_all, one["edits"], other["edits"]), (True, EDITS, EDITS))
     cases.show("long-follow: the features, byte for byte", features(stage.leader) == features(stage.standby), True)
-    cases.show("long-follow: the log has each acknowledged edit once", waited(lambda: log_of(stage.log) == editor.acknowledged), True)
+    cases.show(
+        "long-follow: the log has each acknowledged edit once",
+        waited(lambda: log_of(stage.log) == editor.acknowledged),
+        True,
+    )
     cases.show("long-follow: and what each replaced", has_was(stage.log), True)
-    cases.show("long-follow: it was published meanwhile", (set(publications), one["generation"] > 2, other["generation"] > 2), ({0}, True, True))
+    cases.show(
+        "long-follow: it was published meanwhile",
+        (set(publications), one["generation"] > 2, other["generation"] > 2),
+        ({0}, True, True),
+    )
     stage.end()
-    cases.show("long-follow: nobody was left behind", [line for line in stage.told if "missing" in line or "anew" in line], [])
-    cases.say(f"long-follow: {EDITS:,} edits in {took:.0f} s, {kills} kills, {len(publications)} publications; all at the standby after {took_all:.0f} s")
+    cases.show(
+        "long-follow: nobody was left behind", [line for line in stage.told if "missing" in line or "anew" in line], []
+    )
+    cases.say(
+        f"long-follow: {EDITS:,} edits in {took:.0f} s, {kills} kills, {len(publications)} publications; all at the"
+        f" standby after {took_all:.0f} s"
+    )
     shutil.rmtree(place)
 
 
 def of_bytes(length):
     """A feature whose JSON, as short as it can be, has so many bytes."""
-    one = {"layer": "p", "minzoom": 0, "maxzoom": 0, "geometry": {"points": [[4000000000 + at, 4000000000] for at in range(2700)]}, "tags": {}}
+    one = {
+        "layer": "p",
+        "minzoom": 0,
+        "maxzoom": 0,
+        "geometry": {"points": [[4000000000 + at, 4000000000] for at in range(2700)]},
+        "tags": {},
+    }
     one["tags"] = {f"k{at}": "" for at in range(10, 40)}
     missing = length - len(short(one))
     for name in one["tags"]:
@@ -433,7 +535,8 @@ def short(value):
 
 
 def large(cases: Cases, folder: str) -> None:
-    """A PUT takes 65,536 bytes of JSON; `{"changes":[{"feature":..,"put":N}]}` around it is 33 bytes and the digits of N longer, which no batch takes."""
+    """A PUT takes 65,536 bytes of JSON; `{"changes":[{"feature":..,"put":N}]}` around it is 33 bytes and the digits
+    of N longer, which no batch takes."""
     with Server(folder, "large", 65536) as leader, Server(folder, copied(leader, folder, "large_standby")) as standby:
         for number, length in [(2, 65502), (2, 65503), (3, 65536), (2 ** 63 - 1, 65536)]:
             reply = curl(f"{leader.url}/features/{number}", "-X", "PUT", body=short(of_bytes(length)))
@@ -441,7 +544,11 @@ def large(cases: Cases, folder: str) -> None:
         curl(leader.url + "/features/4", "-X", "PUT", body=feature())
         code, lines = once(leader.url, "--to", standby.url)
         seen = code, known(standby)["edits"], features(standby) == features(leader)
-        cases.show("standby: each is made at the standby, and what comes after it", seen if seen[0] == 0 else (seen, lines), (0, 5, True))
+        cases.show(
+            "standby: each is made at the standby, and what comes after it",
+            seen if seen[0] == 0 else (seen, lines),
+            (0, 5, True),
+        )
         curl(leader.url + "/features/5", "-X", "PUT", body=short(of_bytes(65536)))
         curl(leader.url + "/features/6", "-X", "DELETE")
         curl(leader.url + "/features/5", "-X", "DELETE")
@@ -452,8 +559,14 @@ def large(cases: Cases, folder: str) -> None:
 
         with Between(standby, before=meddles) as between:
             code, lines = once(leader.url, "--to", between.url)
-        cases.show("standby: somebody else's edit just before one is found", (code, "was edited by somebody else" in lines[-1]), (1, True))
-    with Server(folder, "large_lost", 65536) as leader, Server(folder, copied(leader, folder, "large_lost_standby")) as standby:
+        cases.show(
+            "standby: somebody else's edit just before one is found",
+            (code, "was edited by somebody else" in lines[-1]),
+            (1, True),
+        )
+    with Server(folder, "large_lost", 65536) as leader, Server(
+        folder, copied(leader, folder, "large_lost_standby")
+    ) as standby:
         curl(leader.url + "/features/1", "-X", "PUT", body=short(of_bytes(65536)))
         curl(leader.url + "/features/2", "-X", "PUT", body=feature())
         lost = []
@@ -469,11 +582,16 @@ def large(cases: Cases, folder: str) -> None:
             has_all = waited(lambda: known(standby)["edits"] == 2, 30)
             child.terminate()
             child.communicate()
-        cases.show("standby: a large one whose reply is lost is made once", (lost, has_all, features(standby) == features(leader)), (["PUT"], True, True))
+        cases.show(
+            "standby: a large one whose reply is lost is made once",
+            (lost, has_all, features(standby) == features(leader)),
+            (["PUT"], True, True),
+        )
 
 
 def histories(cases: Cases, folder: str) -> None:
-    """A leader that is put back from an older copy, and edited: it is another map, also where no edit is listed by both."""
+    """A leader that is put back from an older copy, and edited: it is another map, also where no edit is listed by
+    both."""
     versions = itertools.count(1)
 
     def put(server, number, **tags):
@@ -487,7 +605,11 @@ def histories(cases: Cases, folder: str) -> None:
         put(leader, 2), put(leader, 4)
         with Server(folder, name) as standby:
             code, _ = once(leader.url, "--to", standby.url)
-            cases.show("standby: one whose features later edits change", (code, features(standby) == features(leader)), (0, True))
+            cases.show(
+                "standby: one whose features later edits change",
+                (code, features(standby) == features(leader)),
+                (0, True),
+            )
             subprocess.run([*VTMAP, "publish", "--url", standby.url], check=True, capture_output=True)
             code, _ = once(leader.url, "--to", standby.url)
             cases.show("standby: one that lists no edit any more", (code, known(standby)["edits"]), (0, 5))
@@ -498,7 +620,11 @@ def histories(cases: Cases, folder: str) -> None:
                 before = features(standby)
                 code, lines = once(back.url, "--to", standby.url)
                 said = "feature 2 of " + standby.url in lines[-1] and "put back from a copy" in lines[-1]
-                cases.show("standby: a leader that was put back from an older copy", (code, said, features(standby) == before), (1, True, True))
+                cases.show(
+                    "standby: a leader that was put back from an older copy",
+                    (code, said, features(standby) == before),
+                    (1, True, True),
+                )
     with Server(folder, "twice", 4096) as leader:
         put(leader, 1)
         old = copied(leader, folder, "twice_old")
@@ -507,7 +633,11 @@ def histories(cases: Cases, folder: str) -> None:
             put(back, 4), put(back, 3, same="same")
             code, lines = once(back.url, "--to", standby.url)
             said = "feature 2 of " + standby.url in lines[-1]
-            cases.show("standby: one whose last edit is the same after another one", (code, said, known(standby)["edits"]), (1, True, 3))
+            cases.show(
+                "standby: one whose last edit is the same after another one",
+                (code, said, known(standby)["edits"]),
+                (1, True, 3),
+            )
 
 
 def standby(cases: Cases, folder: str) -> None:

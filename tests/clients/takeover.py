@@ -1,5 +1,5 @@
-"""The part `takeover` of run.py: a machine dies in the middle of edits, its disk with it, and the standby takes its place. The edits that were
-acknowledged are compared with the standby's one by one."""
+"""The part `takeover` of run.py: a machine dies in the middle of edits, its disk with it, and the standby takes its
+place. The edits that were acknowledged are compared with the standby's one by one."""
 import json
 import os
 import shutil
@@ -21,7 +21,9 @@ def listed(server):
     while True:
         reply = json.loads(curl(f"{server.url}/admin/edits/from/{number}")[2])
         for edit in reply["edits"]:
-            found[edit["edit"]] = {change.get("put", change.get("delete")): change.get("feature") for change in edit["changes"]}
+            found[edit["edit"]] = {
+                change.get("put", change.get("delete")): change.get("feature") for change in edit["changes"]
+            }
         number = len(found) + 1
         if number > reply["last"]:
             return found
@@ -33,7 +35,11 @@ class Small(Editor):
     def changes(self):
         """The changes of some edit: one."""
         number = self.random.randrange(1, 400)
-        return [{"delete": number}] if number in self.there and self.random.random() < 0.3 else [{"put": number, "feature": self.feature()}]
+        return (
+            [{"delete": number}]
+            if number in self.there and self.random.random() < 0.3
+            else [{"put": number, "feature": self.feature()}]
+        )
 
 
 def dies(cases, folder, every):
@@ -56,15 +62,27 @@ def dies(cases, folder, every):
     follower.communicate()
     has = listed(standby)
     same = has == {number: editor.acknowledged[number] for number in range(1, len(has) + 1)}
-    cases.show(f"takeover: the first edits are at the standby, one by one, --every {every}", (same, said.endswith(": waiting\n")), (True, True))
+    cases.show(
+        f"takeover: the first edits are at the standby, one by one, --every {every}",
+        (same, said.endswith(": waiting\n")),
+        (True, True),
+    )
     late = [died - times[number] for number in times if number > len(has)]
-    cases.show("takeover: and what it lacks is as young as it waits, and 5 s where the machine is busy", max(late, default=0) < every + 5 or late, True)
-    cases.say(f"takeover: of {BEFORE} edits {len(late)} are lost with the machine, the oldest made {max(late, default=0):.2f} s before; --every {every}")
+    cases.show(
+        "takeover: and what it lacks is as young as it waits, and 5 s where the machine is busy",
+        max(late, default=0) < every + 5 or late,
+        True,
+    )
+    cases.say(
+        f"takeover: of {BEFORE} edits {len(late)} are lost with the machine, the oldest made"
+        f" {max(late, default=0):.2f} s before; --every {every}"
+    )
     return leader, standby
 
 
 def takes_over(cases, folder, old, standby):
-    """The standby is edited and published. The old machine comes back: with its old disk it is refused, with a copy it is the standby."""
+    """The standby is edited and published. The old machine comes back: with its old disk it is refused, with a copy
+    it is the standby."""
     edits = known(standby)["edits"]
     editor = Small(standby.port, 9)
     editor.acknowledged = dict.fromkeys(range(1, edits + 1))
@@ -90,12 +108,21 @@ def takes_over(cases, folder, old, standby):
 
 
 def breaks(cases: Cases, folder: str) -> None:
-    """The disk fails, by strace: a broken server still lists what it has acknowledged, and not the edit in doubt; and after a restart that too, if
-    it was stored."""
+    """The disk fails, by strace: a broken server still lists what it has acknowledged, and not the edit in doubt;
+    and after a restart that too, if it was stored."""
     if not shutil.which("strace"):
         cases.say("takeover: no strace: no disk fails")
         return
-    failing = ["strace", "-f", "-o", os.path.join(folder, "calls"), "-e", "trace=fdatasync", "-e", "inject=fdatasync:error=EIO:when=90+"]
+    failing = [
+        "strace",
+        "-f",
+        "-o",
+        os.path.join(folder, "calls"),
+        "-e",
+        "trace=fdatasync",
+        "-e",
+        "inject=fdatasync:error=EIO:when=90+",
+    ]
     made = Server(folder, "failing", 65536)
     made.end()
     made.__exit__()
@@ -108,9 +135,17 @@ def breaks(cases: Cases, folder: str) -> None:
                 statuses.append(status_of(curl(f"{leader.url}/features/{len(statuses)}", "-X", "PUT", body=feature())))
             acknowledged = statuses.count(200)
             has_all = waited(lambda: known(standby)["edits"] == acknowledged)
-            cases.show("takeover: a broken server lists each acknowledged edit", (has_all, known(leader)["broken"], acknowledged > 9), (True, True, True))
+            cases.show(
+                "takeover: a broken server lists each acknowledged edit",
+                (has_all, known(leader)["broken"], acknowledged > 9),
+                (True, True, True),
+            )
             time.sleep(1)
-            cases.show("takeover: and not the one in doubt", (known(standby)["edits"], sorted(listed(leader))), (acknowledged, [*range(1, acknowledged + 1)]))
+            cases.show(
+                "takeover: and not the one in doubt",
+                (known(standby)["edits"], sorted(listed(leader))),
+                (acknowledged, [*range(1, acknowledged + 1)]),
+            )
             server = subprocess.run(["pgrep", "-P", str(leader.child.pid)], capture_output=True, text=True).stdout
             os.kill(int(server), signal.SIGKILL)
             leader.child.wait(60)
@@ -120,15 +155,23 @@ def breaks(cases: Cases, folder: str) -> None:
             has_all = waited(lambda: known(standby)["edits"] == edits)
             seen = has_all, edits - acknowledged in (1, 2), features(leader) == features(standby)
             cases.show("takeover: after a restart they are equal again", seen, (True, True, True))
-            cases.say(f"takeover: after {acknowledged} edits a sync failed; the edit in doubt was {'' if edits - acknowledged == 2 else 'not '}stored")
+            cases.say(
+                f"takeover: after {acknowledged} edits a sync failed; the edit in doubt was"
+                f" {'' if edits - acknowledged == 2 else 'not '}stored"
+            )
         follower.terminate()
         follower.communicate()
 
 
 CLOSED = '"~^ (POST|PUT|DELETE|PATCH)$" 1;\n'
-STARTED = ["disable --now vtserve-standby.service",
-           "enable --now vtserve-nginx.service vtserve-publish.timer vtserve-watch.timer vtserve-backup.timer vtserve-log.service",
-           "start --no-block vtserve-publish.service vtserve-backup.service"]
+STARTED = [
+    "disable --now vtserve-standby.service",
+    (
+        "enable --now vtserve-nginx.service vtserve-publish.timer vtserve-watch.timer vtserve-backup.timer"
+        " vtserve-log.service"
+    ),
+    "start --no-block vtserve-publish.service vtserve-backup.service",
+]
 
 
 def by_a_command(cases: Cases, folder: str) -> None:
@@ -153,32 +196,74 @@ def by_a_command(cases: Cases, folder: str) -> None:
         words = ["takeover", "--url", standby.url, "--leader", leader.url]
         closed = waited(lambda: status_of(curl(front.url + "/features/9", "-X", "DELETE")) == 503)
         readers = status_of(curl(front.url + "/features/1")), status_of(curl(front.url + "/map/0/0/0.mvt"))
-        cases.show("takeover: nobody edits the standby by its nginx, and readers read", (closed, readers), (True, (200, 200)))
+        cases.show(
+            "takeover: nobody edits the standby by its nginx, and readers read", (closed, readers), (True, (200, 200))
+        )
         looks = [*VTMAP, "watch", "--url", leader.url, "--standby", front.url, "--wait", "0.2"]
         child = subprocess.run(looks, capture_output=True, text=True)
-        cases.show("takeover: the first machine looks at it by its nginx", (child.returncode, child.stdout.splitlines()),
-                   (0, ["1 features, edit 1, generation 0: nothing to do"]))
+        cases.show(
+            "takeover: the first machine looks at it by its nginx",
+            (child.returncode, child.stdout.splitlines()),
+            (0, ["1 features, edit 1, generation 0: nothing to do"]),
+        )
         here.calls()
-        cases.show("takeover: without nginx.conf", here.vtmap(*words), (1, [f"there is no {front_file}: copy that of the first machine"]))
+        cases.show(
+            "takeover: without nginx.conf",
+            here.vtmap(*words),
+            (1, [f"there is no {front_file}: copy that of the first machine"]),
+        )
         shutil.copy(os.path.join(TOP, "docs", "nginx.conf"), front_file)
-        cases.show("takeover: the first machine answers", here.vtmap(*words), (
-            1, [f"{standby.url}: 1 features, edit 1",
-                f"{leader.url} answers, and has edit 1: stop it, or see to it that nobody edits it any more and say --planned"]))
-        cases.show("takeover: nothing was done", [call for call in here.calls() if not call.startswith(("cat ", "--quiet"))], [])
+        cases.show(
+            "takeover: the first machine answers",
+            here.vtmap(*words),
+            (
+                1,
+                [
+                    f"{standby.url}: 1 features, edit 1",
+                    (
+                        f"{leader.url} answers, and has edit 1: stop it, or see to it that nobody edits it any more and"
+                        " say --planned"
+                    ),
+                ],
+            ),
+        )
+        cases.show(
+            "takeover: nothing was done",
+            [call for call in here.calls() if not call.startswith(("cat ", "--quiet"))],
+            [],
+        )
         told = here.vtmap(*words, "--dry-run")
         wanted = [f"{leader.url} answers, and has edit 1", *["would be done"] * 4]
-        cases.show("takeover: a try while it does", (told[0], [line.split(": ")[0] for line in told[1][1:]]), (0, wanted))
+        cases.show(
+            "takeover: a try while it does", (told[0], [line.split(": ")[0] for line in told[1][1:]]), (0, wanted)
+        )
         edit = curl(f"{leader.url}/features/2", "-X", "PUT", body=feature())[2]
         late = here.vtmap(*words, "--planned", "--wait", "1")
-        cases.show("takeover: a planned one that lacks an edit", (edit, late[0], "edit 2 of " in late[1][-1]), (b'{"edit":2}', 1, True))
-        cases.show("takeover: nothing was done then", [call for call in here.calls() if not call.startswith(("cat ", "--quiet"))], [])
+        cases.show(
+            "takeover: a planned one that lacks an edit",
+            (edit, late[0], "edit 2 of " in late[1][-1]),
+            (b'{"edit":2}', 1, True),
+        )
+        cases.show(
+            "takeover: nothing was done then",
+            [call for call in here.calls() if not call.startswith(("cat ", "--quiet"))],
+            [],
+        )
         leader.end(signal.SIGKILL)
         leader.__exit__()
         told = here.vtmap(*words, "--dry-run")
         cases.show("takeover: a try", (told[0], told[1][1]), (0, f"{leader.url} doesn't answer"))
         by_unit = here.vtmap("takeover", "--url", standby.url, "--dry-run")
-        cases.show("takeover: the unit says who is followed", (by_unit[0], by_unit[1][1]), (0, "http://FIRST:8000 doesn't answer"))
-        cases.show("takeover: still nothing was done", [call for call in here.calls() if not call.startswith(("cat ", "--quiet"))], [])
+        cases.show(
+            "takeover: the unit says who is followed",
+            (by_unit[0], by_unit[1][1]),
+            (0, "http://FIRST:8000 doesn't answer"),
+        )
+        cases.show(
+            "takeover: still nothing was done",
+            [call for call in here.calls() if not call.startswith(("cat ", "--quiet"))],
+            [],
+        )
         with open(front_file, "a", encoding="utf-8") as file:
             file.write("no configuration\n")
         cases.show("takeover: an nginx.conf that nginx refuses", here.vtmap(*words)[0], 1)
@@ -190,7 +275,11 @@ def by_a_command(cases: Cases, folder: str) -> None:
         cases.show("takeover: what it runs", [call for call in called if call in STARTED], STARTED)
         edit = waited(lambda: curl(front.url + "/features/9", "-X", "PUT", body=feature())[2] == b'{"edit":2}')
         with open(here.path("etc/vtserve/nginx-maps/closed.conf"), encoding="utf-8") as file:
-            cases.show("takeover: people edit here, and the line of another map stays", (edit, file.read()), (True, CLOSED.replace("^ ", "^north ")))
+            cases.show(
+                "takeover: people edit here, and the line of another map stays",
+                (edit, file.read()),
+                (True, CLOSED.replace("^ ", "^north ")),
+            )
     nobody = here.vtmap("takeover", "--url", f"http://127.0.0.1:{free_port()}", "--leader", leader.url)
     cases.show("takeover: without a standby", nobody[0], 3)
 

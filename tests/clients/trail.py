@@ -1,4 +1,5 @@
-"""The part `trail` of run.py: who changed what, by the logs of `vtmap follow` and of nginx; and edits that are taken back."""
+"""The part `trail` of run.py: who changed what, by the logs of `vtmap follow` and of nginx; and edits that are taken
+back."""
 import gzip
 import json
 import os
@@ -47,7 +48,9 @@ class Office:
         words = [*KIND, "-X", method]
         if person is None:
             return status_of(curl(self.server.url + path, *words, body=body))
-        return status_of(curl(self.front.url + path, *words, "-u", f"{person}:secret", "--interface", "127.0.0.2", body=body))
+        return status_of(
+            curl(self.front.url + path, *words, "-u", f"{person}:secret", "--interface", "127.0.0.2", body=body)
+        )
 
     def last(self):
         """The number of the last edit, once the log has it."""
@@ -74,7 +77,10 @@ class Office:
 
 def told(cases, office):
     """Each kind of edit, by several people."""
-    was, checked = shape("Old").replace("\n", ""), '{"changes":[{"was":%s,"put":7,"feature":%s},{"put":8,"feature":%s,"was":null}]}'
+    was, checked = (
+        shape("Old").replace("\n", ""),
+        '{"changes":[{"was":%s,"put":7,"feature":%s},{"put":8,"feature":%s,"was":null}]}',
+    )
     large = shape("é\\u0001", at=9) + " " * (65536 - len(shape("é\\u0001", at=9).encode()))
     replies = [
         office.edit("anna", "PUT", "/features/7", shape("Old")),
@@ -98,8 +104,13 @@ def told(cases, office):
     ]
     cases.show("trail: who changed what", office.log(), (0, lines))
     rows = [
-        (("--feature", "7"), [0, 1]), (("--person", "bob"), [1, 2, 4]), (("--layer", "q"), [3, 5]), (("--day", "today"), [*range(7)]),
-        (("--day", "2001-01-01"), []), (("--edits", "3-4,6"), [3, 4, 6]), (("--person", "bob", "--feature", "8-9"), [2, 4]),
+        (("--feature", "7"), [0, 1]),
+        (("--person", "bob"), [1, 2, 4]),
+        (("--layer", "q"), [3, 5]),
+        (("--day", "today"), [*range(7)]),
+        (("--day", "2001-01-01"), []),
+        (("--edits", "3-4,6"), [3, 4, 6]),
+        (("--person", "bob", "--feature", "8-9"), [2, 4]),
     ]
     for words, wanted in rows:
         cases.show(f"trail: {' '.join(words)}", office.log(*words), (0, [lines[at] for at in wanted]))
@@ -111,18 +122,38 @@ def told(cases, office):
     cases.show("trail: --numbers", office.log("--person", "anna", "--numbers"), (0, ["1,5-6"]))
     code, found = office.log("--json", "--edits", "4")
     row_of = json.loads(found[0])
-    cases.show("trail: --json", (code, row_of["edit"], row_of["person"], row_of["changes"][0]["delete"]), (0, 4, "bob", 8))
+    cases.show(
+        "trail: --json", (code, row_of["edit"], row_of["person"], row_of["changes"][0]["delete"]), (0, 4, "bob", 8)
+    )
 
 
 def faults(cases, office):
     """A second one that writes the log, and a file system that is full."""
     code, lines = vtmap("follow", "--url", office.server.url, "--log", office.path, "--once")
-    cases.show("trail: a second one for the same log", (code, lines[-1].endswith(": another `vtmap follow` writes this log")), (1, True))
+    cases.show(
+        "trail: a second one for the same log",
+        (code, lines[-1].endswith(": another `vtmap follow` writes this log")),
+        (1, True),
+    )
     path = os.path.join(os.path.dirname(office.path), "other.jsonl")
-    for size, code in ((1, 1), (10 ** 7, 0)):
-        words = ["prlimit", f"--fsize={size * 1000}", *VTMAP, "follow", "--url", office.server.url, "--log", path, "--once"]
+    for size, code in ((1, 1), (10**7, 0)):
+        words = [
+            "prlimit",
+            f"--fsize={size * 1000}",
+            *VTMAP,
+            "follow",
+            "--url",
+            office.server.url,
+            "--log",
+            path,
+            "--once",
+        ]
         child = subprocess.run(words, capture_output=True, text=True)
-        cases.show(f"trail: a log in files of at most {size} KB", (child.returncode, "Traceback" in child.stderr), (code, False))
+        cases.show(
+            f"trail: a log in files of at most {size} KB",
+            (child.returncode, "Traceback" in child.stderr),
+            (code, False),
+        )
 
 
 def same_again(cases, office):
@@ -140,47 +171,90 @@ def undone(cases, office):
     server = office.server
     before, first = features(server), office.last() + 1
     office.edit("anna", "PUT", "/features/20", shape("one"))
-    office.edit("anna", "POST", "/edits", '{"changes":[{"put":20,"feature":%s},{"put":21,"feature":%s},{"delete":7}]}' % (shape("two"), shape("21")))
+    office.edit(
+        "anna",
+        "POST",
+        "/edits",
+        '{"changes":[{"put":20,"feature":%s},{"put":21,"feature":%s},{"delete":7}]}' % (shape("two"), shape("21")),
+    )
     office.edit("anna", "DELETE", "/features/20")
     office.edit("anna", "PUT", "/features/20", shape("three"))
     after, last = features(server), office.last()
     code, lines = office.undo(f"{first}-{last}", "--dry-run")
     end = "1 put back, 0 changed back, 2 deleted, 0 in conflict, 0 refused"
-    cases.show("trail: undo --dry-run", (code, lines[-1], features(server) == after), (0, f"{end}: nothing was sent", True))
+    cases.show(
+        "trail: undo --dry-run", (code, lines[-1], features(server) == after), (0, f"{end}: nothing was sent", True)
+    )
     code, lines = office.undo(f"{first}-{last}")
     seen = code, sorted(lines), features(server) == before
-    cases.show("trail: undo of a range", seen, (0, sorted(
-        ["deleted: p 20 ('three')", "put back: p 7 ('Same')", "deleted: p 21 ('21')", f"its edits: {last + 1}", end]), True))
+    cases.show(
+        "trail: undo of a range",
+        seen,
+        (
+            0,
+            sorted(
+                [
+                    "deleted: p 20 ('three')",
+                    "put back: p 7 ('Same')",
+                    "deleted: p 21 ('21')",
+                    f"its edits: {last + 1}",
+                    end,
+                ]
+            ),
+            True,
+        ),
+    )
     code, lines = office.undo(f"{first}-{last}")
-    cases.show("trail: once more changes nothing", (code, office.last(), features(server) == before), (0, last + 1, True))
+    cases.show(
+        "trail: once more changes nothing", (code, office.last(), features(server) == before), (0, last + 1, True)
+    )
     code, lines = office.undo(f"{last + 1}")
     cases.show("trail: undo of the undoing", (code, features(server) == after), (0, True))
     code, lines = office.undo("9999")
-    cases.show("trail: an edit that the log doesn't have", (code, lines[0].split(":")[0]), (1, "the log doesn't have the edits 9999"))
+    cases.show(
+        "trail: an edit that the log doesn't have",
+        (code, lines[0].split(":")[0]),
+        (1, "the log doesn't have the edits 9999"),
+    )
 
 
 def conflicts(cases, office):
     """What somebody has changed since stays: after the edits, and between them."""
     server, first = office.server, office.last() + 1
-    office.edit("anna", "POST", "/edits", '{"changes":[%s]}' % ",".join('{"put":%d,"feature":%s}' % (number, shape("a")) for number in (30, 31, 32)))
+    office.edit(
+        "anna",
+        "POST",
+        "/edits",
+        '{"changes":[%s]}' % ",".join('{"put":%d,"feature":%s}' % (number, shape("a")) for number in (30, 31, 32)),
+    )
     office.edit("bob", "PUT", "/features/31", shape("bob's"))
     office.edit("bob", "PUT", "/features/32", shape("bob's"))
     office.edit("anna", "PUT", "/features/32", shape("anna's"))
     code, lines = office.undo(f"{first},{first + 3}")
     left = {number: json.loads(curl(f"{server.url}/features/{number}")[2])["tags"]["name"] for number in (31, 32)}
-    cases.show("trail: what somebody has changed since stays", (code, left, status_of(curl(server.url + "/features/30"))),
-               (1, {31: "bob's", 32: "bob's"}, 404))
-    cases.show("trail: and is named", sorted(line for line in lines if line.startswith("conflict")), [
-        "conflict: p 31 ('a'): somebody else has changed it meanwhile, on the map now: name: 'a' -> \"bob's\"",
-        "conflict: p 32 ('a'): somebody has changed it between these edits",
-    ])
+    cases.show(
+        "trail: what somebody has changed since stays",
+        (code, left, status_of(curl(server.url + "/features/30"))),
+        (1, {31: "bob's", 32: "bob's"}, 404),
+    )
+    cases.show(
+        "trail: and is named",
+        sorted(line for line in lines if line.startswith("conflict")),
+        [
+            "conflict: p 31 ('a'): somebody else has changed it meanwhile, on the map now: name: 'a' -> \"bob's\"",
+            "conflict: p 32 ('a'): somebody has changed it between these edits",
+        ],
+    )
     cases.show("trail: and counted", lines[-1], "0 put back, 1 changed back, 1 deleted, 2 in conflict, 0 refused")
 
 
 def import_undone(cases, office, folder):
-    """An import prints the numbers of its edits, by which it is taken back; while it runs somebody else edits the map."""
+    """An import prints the numbers of its edits, by which it is taken back; while it runs somebody else edits the
+    map."""
     before = features(office.server)
-    path = written(folder, "trail.geojson", [row("Point", [at / 100, at / 100], name=f"point {at}") for at in range(150)])
+    path = written(
+        folder, "trail.geojson", [row("Point", [at / 100, at / 100], name=f"point {at}") for at in range(150)]
+    )
     code, lines = imported(path, office.server.url, "--layer", "imported", "--maxzoom", "3", "--first", "1001")
     numbers = next((line.split()[2] for line in lines if line.startswith("its edits: ")), None)
     cases.show("trail: an import prints its edits", (code, numbers), (0, f"{office.last() - 2}-{office.last()}"))
@@ -190,7 +264,8 @@ def import_undone(cases, office, folder):
 
 
 def missed(cases, office, folder):
-    """Edits that were published before the log had them, told and taken back by what nginx and the gateway were sent."""
+    """Edits that were published before the log had them, told and taken back by what nginx and the gateway were
+    sent."""
     server, log, saved = office.server, os.path.join(folder, "gap.jsonl"), os.path.join(folder, "gap.gateway.log")
     follows, logs = ["follow", "--log", log, "--once", "--url", server.url], ["--nginx", office.nginx, "--nginx", saved]
     vtmap(*follows)
@@ -217,13 +292,20 @@ def missed(cases, office, folder):
         f"{first + 3}  bob  deleted p 50 ('three')",
     ])
     code, lines = vtmap("undo", f"{first + 2}-{first + 3}", "--log", log, "--url", server.url)
-    cases.show("trail: without them they can't be taken back", (code, lines), (1, [f"the log doesn't have the edits {first + 2}-{first + 3}: nothing is taken back"]))
+    cases.show(
+        "trail: without them they can't be taken back",
+        (code, lines),
+        (1, [f"the log doesn't have the edits {first + 2}-{first + 3}: nothing is taken back"]),
+    )
     code, lines = vtmap("undo", f"{first + 2}-{first + 3}", "--log", log, *logs, "--url", server.url)
     now = json.loads(curl(f"{server.url}/features/50")[2])["tags"]
     cases.show("trail: with them they are", (code, lines[0], now), (0, "put back: p 50 ('two')", {"name": "two"}))
     told = "nothing is taken back"
     code, lines = vtmap("undo", f"{first + 1}", "--log", log, "--nginx", saved, "--url", server.url)
-    wanted = f"the log doesn't have the edits {first + 1}, and what nginx and the gateway were sent in that time isn't as many edits, or others: {told}"
+    wanted = (
+        f"the log doesn't have the edits {first + 1}, and what nginx and the gateway were sent in that time isn't as"
+        f" many edits, or others: {told}"
+    )
     cases.show("trail: where one of the logs is missing they aren't", (code, lines), (1, [wanted]))
 
 
@@ -239,7 +321,9 @@ def rotated(cases, office):
     code, lines = vtmap("log", old + ".gz", office.path, "--numbers")
     cases.show("trail: both are read", (code, lines), (0, [f"1-{office.last()}"]))
     code, lines = vtmap("log", office.nginx)
-    cases.show("trail: a file that is no log", (code, "this isn't a line of `vtmap follow --log`" in lines[0]), (1, True))
+    cases.show(
+        "trail: a file that is no log", (code, "this isn't a line of `vtmap follow --log`" in lines[0]), (1, True)
+    )
 
 
 def trail(cases: Cases, folder: str) -> None:

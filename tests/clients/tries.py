@@ -1,4 +1,5 @@
-"""The part `try` of run.py: `vtmap try` makes a map with all that is around it, refuses what docs/nginx.conf refuses, and leaves nothing running."""
+"""The part `try` of run.py: `vtmap try` makes a map with all that is around it, refuses what docs/nginx.conf
+refuses, and leaves nothing running."""
 import json
 import os
 import re
@@ -85,7 +86,9 @@ class Tried:
     def __init__(self, folder, *words, under=()):
         env = {name: value for name, value in os.environ.items() if name not in ("DISPLAY", "WAYLAND_DISPLAY")}
         line = [*under, *VTMAP, "try", *words]
-        self.child = subprocess.Popen(line, cwd=folder, env=env, stdout=subprocess.PIPE, stderr=subprocess.STDOUT, text=True)
+        self.child = subprocess.Popen(
+            line, cwd=folder, env=env, stdout=subprocess.PIPE, stderr=subprocess.STDOUT, text=True
+        )
         self.lines = []
         for line in self.child.stdout:
             self.lines.append(line.rstrip())
@@ -101,7 +104,9 @@ class Tried:
             if state_of(number)[1:2] == [str(self.child.pid)]:
                 with open(f"/proc/{number}/cmdline", "rb") as file:
                     words = file.read().decode().split("\0")
-                found[next((name for name in ("wfs", "wmts") if name in words), "map" if "serve" in words else words[0])] = int(number)
+                found[
+                    next((name for name in ("wfs", "wmts") if name in words), "map" if "serve" in words else words[0])
+                ] = int(number)
         return found
 
     def end(self, by=signal.SIGINT):
@@ -141,9 +146,15 @@ def run_yet(numbers):
 
 def refused(cases, name, folder, words, said):
     """Shows that it ends with 1, and says why in one line."""
-    child = subprocess.run([*VTMAP, "try", *words], cwd=folder, capture_output=True, text=True, timeout=100, check=False)
+    child = subprocess.run(
+        [*VTMAP, "try", *words], cwd=folder, capture_output=True, text=True, timeout=100, check=False
+    )
     lines = [line for line in (child.stdout + child.stderr).splitlines() if line != "all of it has ended"]
-    cases.show(f"try: {name}", (child.returncode, len(lines), re.search(said, "\n".join(lines)) is not None or lines), (1, 1, True))
+    cases.show(
+        f"try: {name}",
+        (child.returncode, len(lines), re.search(said, "\n".join(lines)) is not None or lines),
+        (1, 1, True),
+    )
 
 
 def tries(cases: Cases, folder: str) -> None:
@@ -163,7 +174,13 @@ def refusals(cases: Cases, folder: str) -> None:
     os.mkdir(os.path.join(folder, "full"))
     with open(os.path.join(folder, "full", "file"), "w", encoding="utf-8") as file:
         file.write("kept")
-    refused(cases, "a folder with something else", folder, ["full", *program], "full is there, and not empty: name another folder")
+    refused(
+        cases,
+        "a folder with something else",
+        folder,
+        ["full", *program],
+        "full is there, and not empty: name another folder",
+    )
     cases.show("try: which is as it was", os.listdir(os.path.join(folder, "full")), ["file"])
     refused(cases, "a file in place of a folder", folder, ["full/file", *program], "is there, and not empty")
     refused(cases, "--again without a map", folder, ["none", "--again", *program], "none has no map of `vtmap try`")
@@ -178,25 +195,49 @@ def refusals(cases: Cases, folder: str) -> None:
     cases.show("try: nothing of these was made", os.path.exists(os.path.join(folder, "none")), False)
     with socket.create_server(("127.0.0.1", 0)) as listener:
         port = listener.getsockname()[1]
-        refused(cases, "a port that somebody has", folder, ["taken", "--port", f"{port}", *program], f"port {port} of 127.0.0.1 can't be opened")
+        refused(
+            cases,
+            "a port that somebody has",
+            folder,
+            ["taken", "--port", f"{port}", *program],
+            f"port {port} of 127.0.0.1 can't be opened",
+        )
 
 
 def town(cases: Cases, folder: str) -> None:
     """The town, once more with another port, and the map of before."""
     with Tried(folder, "--program", PROGRAM) as tried:
-        cases.show("try: it says where the page is", re.sub(r":\d+/", ":PORT/", tried.lines[0]), "the map: http://127.0.0.1:PORT/pages/#13/54.50001/7.50052")
+        cases.show(
+            "try: it says where the page is",
+            re.sub(r":\d+/", ":PORT/", tried.lines[0]),
+            "the map: http://127.0.0.1:PORT/pages/#13/54.50001/7.50052",
+        )
         status = json.loads(curl(tried.url + "/admin/status")[2])
-        cases.show("try: the town is there, and published", (status["features"], status["generation"], status["edits"] == status["published"]), (355, 1, True))
+        cases.show(
+            "try: the town is there, and published",
+            (status["features"], status["generation"], status["edits"] == status["published"]),
+            (355, 1, True),
+        )
         names = re.findall(rb"<wfs:Title>([^<]+)", curl(tried.url + CAPABILITIES)[2])
         wanted = [b"building (areas)", b"land (areas)", b"park (areas)", b"place (points)", b"road (lines)"]
         cases.show("try: QGIS's layers", names, wanted)
         curl(tried.url + "/features/999", "-X", "PUT", body=feature())
         cases.show("try: Ctrl+C", tried.end(), (0, ["all of it has ended"]))
-    refused(cases, "a folder with a map", folder, ["--program", PROGRAM], "vtmap-try has a map already: --again goes on with it")
+    refused(
+        cases,
+        "a folder with a map",
+        folder,
+        ["--program", PROGRAM],
+        "vtmap-try has a map already: --again goes on with it",
+    )
     port = free_port()
     with Tried(folder, "--again", "--port", f"{port}", "--program", PROGRAM) as tried:
         reply = curl(f"http://127.0.0.1:{port}/features/999")
-        cases.show("try: --again has the map as it was", (tried.lines[0], status_of(reply)), (f"the map: http://127.0.0.1:{port}/pages/", 200))
+        cases.show(
+            "try: --again has the map as it was",
+            (tried.lines[0], status_of(reply)),
+            (f"the map: http://127.0.0.1:{port}/pages/", 200),
+        )
 
 
 def replies_of(url):
@@ -205,7 +246,14 @@ def replies_of(url):
     for words, path, body in ASKED:
         reply = curl(url + path, "--path-as-is", *(word.replace("OWN", url) for word in words), body=body)
         kind = (field(reply, "content-type") or "").partition(";")[0] if status_of(reply) == 200 else None
-        found.append((status_of(reply), kind, field(reply, "location"), field(reply, "access-control-allow-origin") if status_of(reply) < 400 else None))
+        found.append(
+            (
+                status_of(reply),
+                kind,
+                field(reply, "location"),
+                field(reply, "access-control-allow-origin") if status_of(reply) < 400 else None,
+            )
+        )
     return found
 
 
@@ -227,14 +275,25 @@ def fronts(cases: Cases, folder: str) -> None:
         again = curl(tried.url + "/map/0/0/0.mvt", "-H", f"If-None-Match: {tag}")
         cases.show("try: a tile that a client has already", (tag is not None, status_of(again)), (True, 304))
         if has_cairo(cases):
-            picture, document = curl(tried.url + "/xyz/0/0/0.png"), curl(tried.url + "/wmts/1.0.0/WMTSCapabilities.xml")[2].decode()
-            cases.show("try: pictures", (status_of(picture), field(picture, "content-type"), f'"{tried.url}/wmts?"' in document), (200, "image/png", True))
+            picture, document = (
+                curl(tried.url + "/xyz/0/0/0.png"),
+                curl(tried.url + "/wmts/1.0.0/WMTSCapabilities.xml")[2].decode(),
+            )
+            cases.show(
+                "try: pictures",
+                (status_of(picture), field(picture, "content-type"), f'"{tried.url}/wmts?"' in document),
+                (200, "image/png", True),
+            )
             again = curl(tried.url + "/xyz/0/0/0.png", "-H", f"If-None-Match: {field(picture, 'etag')}")
             cases.show("try: one that a client has already", status_of(again), 304)
         chunked = curl(tried.url + "/features/7", "-X", "PUT", "-H", "Transfer-Encoding: chunked", body=FEATURE)
         cases.show("try: a body without a length", status_of(chunked), 411)
-        cases.show("try: a file beside the page", status_of(curl(tried.url + "/pages/..%2fREADME.md", "--path-as-is")), 404)
-        cases.show("try: a file above the page", status_of(curl(tried.url + "/pages/../README.md", "--path-as-is")), 404)
+        cases.show(
+            "try: a file beside the page", status_of(curl(tried.url + "/pages/..%2fREADME.md", "--path-as-is")), 404
+        )
+        cases.show(
+            "try: a file above the page", status_of(curl(tried.url + "/pages/../README.md", "--path-as-is")), 404
+        )
 
 
 def endings(cases: Cases, folder: str) -> None:
@@ -245,7 +304,11 @@ def endings(cases: Cases, folder: str) -> None:
         with Tried(folder, f"ends-{by}", *words) as tried:
             numbers = tried.children()
             code, lines = tried.end(by)
-            cases.show(f"try: {signal.Signals(by).name} leaves nothing", (sorted(numbers), code, run_yet(numbers.values())), (started, status, []))
+            cases.show(
+                f"try: {signal.Signals(by).name} leaves nothing",
+                (sorted(numbers), code, run_yet(numbers.values())),
+                (started, status, []),
+            )
     for name in started:
         with Tried(folder, f"lost-{name}", *words) as tried:
             numbers = tried.children()

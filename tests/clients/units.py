@@ -1,4 +1,5 @@
-"""The part `units` of tests/clients/run.py: the units of systemd in docs/, judged by systemd-analyze, and the system calls of `serve`.
+"""The part `units` of tests/clients/run.py: the units of systemd in docs/, judged by systemd-analyze, and the system
+calls of `serve`.
 
 The units aren't run: that needs a machine whose first process is systemd.
 """
@@ -36,7 +37,19 @@ TASKS = {
     "vtserve-publish.service": ["publish", "--url", "URL", "--record", "record"],
     "vtserve-backup.service": ["save", "map-2026-11-29.jsonl", "--disk", "DISK"],
     "vtserve-watch.service": [
-        "watch", "--url", "URL", "--backups", ".", "--backup-hours", "26", "--state", "state", "--record", "record", "--metrics", "metrics",
+        "watch",
+        "--url",
+        "URL",
+        "--backups",
+        ".",
+        "--backup-hours",
+        "26",
+        "--state",
+        "state",
+        "--record",
+        "record",
+        "--metrics",
+        "metrics",
     ],
 }
 # SQLite sets the owner of its files if root runs it.
@@ -56,14 +69,22 @@ def judged(cases: Cases) -> None:
         # The commands of the units may not be installed here.
         faults = [line for line in child.stderr.splitlines() if "is not executable: No such file" not in line]
         cases.show(f"units: systemd-analyze verify {name}", faults, [])
-        child = subprocess.run(["systemd-analyze", "--no-pager", "security", "--offline=true", unit(name)], capture_output=True, text=True)
+        child = subprocess.run(
+            ["systemd-analyze", "--no-pager", "security", "--offline=true", unit(name)], capture_output=True, text=True
+        )
         found = re.search(r"Overall exposure level for \S+: ([\d.]+)", child.stdout)
-        cases.show(f"units: systemd-analyze security {name}: at most {most}", found is not None and float(found[1]) <= most, True)
+        cases.show(
+            f"units: systemd-analyze security {name}: at most {most}",
+            found is not None and float(found[1]) <= most,
+            True,
+        )
 
 
 def filtered(name):
     """The system calls that a unit allows: those of the sets that it names, less those of the sets after `~`."""
-    listed = subprocess.run(["systemd-analyze", "--no-pager", "syscall-filter"], capture_output=True, text=True, check=True).stdout
+    listed = subprocess.run(
+        ["systemd-analyze", "--no-pager", "syscall-filter"], capture_output=True, text=True, check=True
+    ).stdout
     sets, current = {}, None
     for line in listed.splitlines():
         word = line.strip().split(" ")[0]
@@ -112,14 +133,20 @@ def tasks(cases: Cases, folder: str) -> None:
             ran = subprocess.run(["strace", "-f", "-o", trace, *VTMAP, *words], cwd=folder, capture_output=True)
             with open(trace, encoding="utf-8", errors="replace") as file:
                 calls = {found[1] for line in file if (found := re.match(r"\d+ +(\w+)\(", line))}
-            cases.show(f"units: what {name} runs, and system calls that it doesn't allow", (ran.returncode, sorted(calls - filtered(name) - OF_ROOT)), (0, []))
+            cases.show(
+                f"units: what {name} runs, and system calls that it doesn't allow",
+                (ran.returncode, sorted(calls - filtered(name) - OF_ROOT)),
+                (0, []),
+            )
 
 
 def gateway(cases: Cases, folder: str) -> None:
     """The system calls of `vtmap wfs`, which is read and saves a shape that GDAL cuts, and its memory."""
     trace = os.path.join(folder, "gateway.trace")
     words = ["--state", os.path.join(folder, "gateway.state"), "--layer", "park:areas:name=text"]
-    with Server(folder, "gateway", 4096) as server, Gateway(folder, server.url, *words, under=["strace", "-f", "-o", trace]) as desk:
+    with Server(folder, "gateway", 4096) as server, Gateway(
+        folder, server.url, *words, under=["strace", "-f", "-o", trace]
+    ) as desk:
         gis = Gis(desk, "park.areas")
         gis.rows()
         told = gis.save(gis.insert(triangle(834000, 7264000, 5000), name="Park"))
@@ -132,14 +159,22 @@ def gateway(cases: Cases, folder: str) -> None:
     cases.show("units: vtmap wfs saves, and ends at SIGTERM", (told.split(".")[0], ended), ("SUCCESS park", 0))
     # A library that GDAL's module loads asks where its memory is to lie, and goes on without.
     calls.discard("set_mempolicy")
-    cases.show("units: system calls of it that its unit doesn't allow", sorted(calls - filtered("vtserve-wfs.service")), [])
-    cases.show("units: memory of it that is writable and executable", [line for line in lines if "PROT_WRITE|PROT_EXEC" in line], [])
+    cases.show(
+        "units: system calls of it that its unit doesn't allow", sorted(calls - filtered("vtserve-wfs.service")), []
+    )
+    cases.show(
+        "units: memory of it that is writable and executable",
+        [line for line in lines if "PROT_WRITE|PROT_EXEC" in line],
+        [],
+    )
 
 
 def pictures(cases: Cases, folder: str) -> None:
     """The system calls of `vtmap wmts` and of the processes that draw, and their memory."""
     trace = os.path.join(folder, "drawer.trace")
-    with Server(folder, "drawn", 4096) as server, Drawer(folder, server.url, under=["strace", "-f", "-o", trace]) as drawer:
+    with Server(folder, "drawn", 4096) as server, Drawer(
+        folder, server.url, under=["strace", "-f", "-o", trace]
+    ) as drawer:
         curl(f"{server.url}/features/1", "-X", "PUT", body=feature(tags={"name": "p"}))
         status = status_of(curl(drawer.url + "/xyz/1/1/1.png"))
         with open(f"/proc/{drawer.child.pid}/task/{drawer.child.pid}/children", encoding="ascii") as file:
@@ -149,8 +184,14 @@ def pictures(cases: Cases, folder: str) -> None:
         lines = file.read().splitlines()
     calls = {found[1] for line in lines if (found := re.match(r"\d+ +(\w+)\(", line))}
     cases.show("units: vtmap wmts draws, and ends at SIGTERM", (status, ended), (200, 0))
-    cases.show("units: system calls of it that its unit doesn't allow", sorted(calls - filtered("vtserve-wmts.service")), [])
-    cases.show("units: memory of it that is writable and executable", [line for line in lines if "PROT_WRITE|PROT_EXEC" in line], [])
+    cases.show(
+        "units: system calls of it that its unit doesn't allow", sorted(calls - filtered("vtserve-wmts.service")), []
+    )
+    cases.show(
+        "units: memory of it that is writable and executable",
+        [line for line in lines if "PROT_WRITE|PROT_EXEC" in line],
+        [],
+    )
 
 
 def told_alive(cases: Cases, folder: str) -> None:
@@ -189,8 +230,16 @@ def told_alive(cases: Cases, folder: str) -> None:
     cases.show("units: vtmap wfs tells systemd that it answers", seen, [b"WATCHDOG=1", None, b"WATCHDOG=1"])
     found = {line.partition("=")[0]: line.partition("=")[2] for line in lines_of("vtserve-wfs.service")}
     wanted = ("10min", "SIGTERM", "on-failure", True)
-    cases.show("units: its unit starts it again otherwise, once a save is made", (
-        found.get("WatchdogSec"), found.get("WatchdogSignal"), found["Restart"], "AF_UNIX" in found["RestrictAddressFamilies"]), wanted)
+    cases.show(
+        "units: its unit starts it again otherwise, once a save is made",
+        (
+            found.get("WatchdogSec"),
+            found.get("WatchdogSignal"),
+            found["Restart"],
+            "AF_UNIX" in found["RestrictAddressFamilies"],
+        ),
+        wanted,
+    )
 
 
 def lines_of(name):
@@ -203,18 +252,31 @@ def causes(cases: Cases, folder: str) -> None:
     """What the journal has of a server that can't start, by the command of its unit."""
     command, = (line for line in lines_of("vtserve.service") if line.startswith("ExecStart="))
     missing = os.path.join(folder, "missing.disk")
-    words = [{"/var/lib/vtserve/map.disk": missing, "8080": str(free_port())}.get(word, word) for word in command.split()[1:]]
+    words = [
+        {"/var/lib/vtserve/map.disk": missing, "8080": str(free_port())}.get(word, word) for word in command.split()[1:]
+    ]
     told = subprocess.run([PROGRAM, *words], capture_output=True, text=True, timeout=60).stderr
-    cases.show("units: a server without its disk says what the system said", told, f"vtserve: File: {missing}: No such file or directory (os error 2)\n")
+    cases.show(
+        "units: a server without its disk says what the system said",
+        told,
+        f"vtserve: File: {missing}: No such file or directory (os error 2)\n",
+    )
     for name in TASKS:
         named = [line for line in lines_of(name) if re.match("# OnFailure=.*@%n", line)]
         cases.show(f"units: {name} has a line for who is told when it fails", len(named), 1)
     for name in ("publish", "watch", "backup"):
         lines = [line.partition("=") for unit_of in ("", "@") for line in lines_of(f"vtserve-{name}{unit_of}.timer")]
         delays = [value for key, _, value in lines if key == "RandomizedDelaySec"]
-        cases.show(f"units: not all machines and maps at once, vtserve-{name}.timer", (len(delays), all(delays)), (2, True))
-        # A timer of OnBootSec= that is enabled later fires at once: the watch would miss the first publication and backup.
-        cases.show(f"units: nor before what comes first, vtserve-{name}.timer", [key for key, _, _ in lines if key == "OnBootSec"], [])
+        cases.show(
+            f"units: not all machines and maps at once, vtserve-{name}.timer", (len(delays), all(delays)), (2, True)
+        )
+        # A timer of OnBootSec= that is enabled later fires at once: the watch would miss the first publication and
+        # backup.
+        cases.show(
+            f"units: nor before what comes first, vtserve-{name}.timer",
+            [key for key, _, _ in lines if key == "OnBootSec"],
+            [],
+        )
 
 
 def backups(cases: Cases, folder: str) -> None:
@@ -240,7 +302,11 @@ def backups(cases: Cases, folder: str) -> None:
         made("map-2026-11-27.jsonl", 27)
         old = f"the newest backup in {kept} is 27.0 hours old, and it may be "
         cases.show("units: vtmap watch, an old backup", watched(), (1, [old + "26"]))
-        cases.show("units: vtmap watch, by --backup-hours", (watched("--backup-hours", "2.5"), watched("--backup-hours", "28")[0]), ((1, [old + "2.5"]), 0))
+        cases.show(
+            "units: vtmap watch, by --backup-hours",
+            (watched("--backup-hours", "2.5"), watched("--backup-hours", "28")[0]),
+            ((1, [old + "2.5"]), 0),
+        )
         made("map-2026-11-28.jsonl", 25)
         cases.show("units: vtmap watch, a new backup", watched()[0], 0)
     kept += ".gone"
@@ -265,7 +331,11 @@ def units(cases: Cases, folder: str) -> None:
         pictures(cases, folder)
     statuses, calls, lines = session(folder)
     cases.show("units: a session under strace", statuses, [200] * 7)
-    cases.show("units: system calls of serve that its unit doesn't allow", sorted(calls - filtered("vtserve.service")), [])
+    cases.show(
+        "units: system calls of serve that its unit doesn't allow", sorted(calls - filtered("vtserve.service")), []
+    )
     mixed = [line for line in lines if "PROT_WRITE|PROT_EXEC" in line]
     sockets = [line for line in lines if " socket(" in line and "AF_INET," not in line]
-    cases.show("units: memory that is writable and executable, and sockets of other families", (mixed, sockets), ([], []))
+    cases.show(
+        "units: memory that is writable and executable, and sockets of other families", (mixed, sockets), ([], [])
+    )

@@ -61,10 +61,16 @@ def six_files(cases: Cases, folder: str) -> None:
         cases.show("updates: --overwrite", (code, layers(server)["roads"], layers(server)["wells"]), (0, 140, 20))
         code, lines = imported(files["roads"], server.url, "--layer", "roads")
         note = "note: the map has roads already: these are further features of it (`vtmap update` changes them instead)"
-        cases.show("updates: a file of a layer that is there", (code, note in lines, layers(server)["roads"]), (0, True, 290))
+        cases.show(
+            "updates: a file of a layer that is there", (code, note in lines, layers(server)["roads"]), (0, True, 290)
+        )
     with Server(folder, "unseen_ids", more=()) as server:
         code, lines = imported(files["wells"], server.url, "--layer", "wells")
-        cases.show("updates: without --admin --first has to be named", (code, lines[-1].endswith("Name the first one by --first: nothing was sent")), (1, True))
+        cases.show(
+            "updates: without --admin --first has to be named",
+            (code, lines[-1].endswith("Name the first one by --first: nothing was sent")),
+            (1, True),
+        )
         code, lines = imported(files["wells"], server.url, "--layer", "wells", "--first", "7")
         known = [number for number in range(1, 30) if shown(server, number)]
         cases.show("updates: and is taken as it comes", (code, known), (0, list(range(7, 17))))
@@ -76,31 +82,65 @@ def differences(cases: Cases, folder: str) -> None:
     words = ["--layer", "p", "--id", "nr", "--update", "--base", os.path.join(folder, "daily.base")]
     path = written(folder, "daily.geojson", rows)
     with Server(folder, "daily", 65536) as server:
-        cases.show("updates: the first day", imported(path, server.url, *words)[1][-1], "200 new, 0 changed, 0 deleted, 0 unchanged")
+        cases.show(
+            "updates: the first day",
+            imported(path, server.url, *words)[1][-1],
+            "200 new, 0 changed, 0 deleted, 0 unchanged",
+        )
         edits = status(server)["edits"]
         code, lines = imported(path, server.url, *words, "--delete-missing")
         same = "0 new, 0 changed, 0 deleted, 200 unchanged"
-        cases.show("updates: an unchanged file sends nothing", (code, lines[-1], status(server)["edits"]), (0, same, edits))
-        other = [*rows[1:3], *[{**one, "properties": {**one["properties"], "name": "changed"}} for one in rows[3:6]], *rows[6:], *points(212)[200:]]
+        cases.show(
+            "updates: an unchanged file sends nothing", (code, lines[-1], status(server)["edits"]), (0, same, edits)
+        )
+        other = [
+            *rows[1:3],
+            *[{**one, "properties": {**one["properties"], "name": "changed"}} for one in rows[3:6]],
+            *rows[6:],
+            *points(212)[200:],
+        ]
         path = written(folder, "next.geojson", other)
         code, lines = imported(path, server.url, *words, "--delete-missing")
-        cases.show("updates: the next day", (code, lines[-1], status(server)["edits"]), (0, "12 new, 3 changed, 1 deleted, 196 unchanged", edits + 1))
+        cases.show(
+            "updates: the next day",
+            (code, lines[-1], status(server)["edits"]),
+            (0, "12 new, 3 changed, 1 deleted, 196 unchanged", edits + 1),
+        )
         found = {number: one["tags"]["name"] for number, one in listed(server).items()}
-        cases.show("updates: the map is as the file", found, {one["properties"]["nr"]: one["properties"]["name"] for one in other})
+        cases.show(
+            "updates: the map is as the file",
+            found,
+            {one["properties"]["nr"]: one["properties"]["name"] for one in other},
+        )
         code, lines = imported(written(folder, "none.geojson", []), server.url, *words, "--delete-missing")
-        cases.show("updates: a file of nothing deletes nothing", (code, lines[-1], len(listed(server))), (1, "nothing was sent", 211))
+        cases.show(
+            "updates: a file of nothing deletes nothing",
+            (code, lines[-1], len(listed(server))),
+            (1, "nothing was sent", 211),
+        )
         code, lines = imported(path, server.url, "--layer", "q", "--first", "1000", "--id", "nr")
-        cases.show("updates: --id and --first", (code, layers(server), 1002 in listed(server)), (0, {"p": 211, "q": 211}, True))
+        cases.show(
+            "updates: --id and --first", (code, layers(server), 1002 in listed(server)), (0, {"p": 211, "q": 211}, True)
+        )
         code, lines = imported(path, server.url, "--layer", "r", "--update")
-        cases.show("updates: without ids that stay", (code, lines[-1].endswith("give --id FIELD, or the --first of the import before")), (2, True))
+        cases.show(
+            "updates: without ids that stay",
+            (code, lines[-1].endswith("give --id FIELD, or the --first of the import before")),
+            (2, True),
+        )
         nowhere = written(folder, "nowhere.geojson", [*other[:-1], {**other[-1], "geometry": None}])
         code, lines = imported(nowhere, server.url, *words, "--delete-missing")
         said = "note: they have no geometry, and aren't put: 1 feature" in lines
-        cases.show("updates: no geometry is no failure, and deletes nothing", (code, said, lines[-1]), (0, True, "0 new, 0 changed, 0 deleted, 210 unchanged"))
+        cases.show(
+            "updates: no geometry is no failure, and deletes nothing",
+            (code, said, lines[-1]),
+            (0, True, "0 new, 0 changed, 0 deleted, 210 unchanged"),
+        )
 
 
 def refused_ones(cases: Cases, folder: str) -> None:
-    """Features of the file that are refused: those that the map has stay. Where the id of one isn't known, nothing is deleted."""
+    """Features of the file that are refused: those that the map has stay. Where the id of one isn't known, nothing
+    is deleted."""
     def rows(*changes):
         made = points(5)
         for at, name, value in changes:
@@ -108,7 +148,9 @@ def refused_ones(cases: Cases, folder: str) -> None:
         return [{**one, "properties": {"kind": "p", **one["properties"]}} for one in made]
 
     def asked(name, *words, of):
-        code, lines = imported(written(folder, name, of), server.url, "--layer-field", "kind", "--update", "--delete-missing", *words)
+        code, lines = imported(
+            written(folder, name, of), server.url, "--layer-field", "kind", "--update", "--delete-missing", *words
+        )
         notes = [line for line in lines if line.startswith("note: nothing is deleted")]
         return code, lines[-1], notes, sorted(one["tags"]["name"] for one in listed(server).values())
 
@@ -126,10 +168,25 @@ def refused_ones(cases: Cases, folder: str) -> None:
             cases.show(f"updates: one whose id is {name}: nothing is deleted", found,
                        (1, "0 new, 0 changed, 0 deleted, 2 unchanged, 1 refused", [note], names[:4]))
         found = asked("twice.geojson", *numbered, of=[*rows()[:3], *rows()[:1]])
-        cases.show("updates: one id twice is known", found, (1, "0 new, 0 changed, 1 deleted, 3 unchanged, 1 refused", [], names[:3]))
-        found = imported(written(folder, "replaced.geojson", rows((1, "kind", None))[:3]), server.url, "--layer-field", "kind", *numbered, "--replace", "p")
-        cases.show("updates: --replace, one without a layer stays", (found[1][-1], len(listed(server))),
-                   ("0 new, 0 changed, 0 deleted, 2 unchanged, 1 refused", 3))
+        cases.show(
+            "updates: one id twice is known",
+            found,
+            (1, "0 new, 0 changed, 1 deleted, 3 unchanged, 1 refused", [], names[:3]),
+        )
+        found = imported(
+            written(folder, "replaced.geojson", rows((1, "kind", None))[:3]),
+            server.url,
+            "--layer-field",
+            "kind",
+            *numbered,
+            "--replace",
+            "p",
+        )
+        cases.show(
+            "updates: --replace, one without a layer stays",
+            (found[1][-1], len(listed(server))),
+            ("0 new, 0 changed, 0 deleted, 2 unchanged, 1 refused", 3),
+        )
     with Server(folder, "refused_texts", 65536) as server:
         asked("all.geojson", *named, of=rows())
         found = asked("no_layer.geojson", *named, of=rows((1, "kind", None))[:4])
@@ -144,14 +201,21 @@ def large_ones(cases: Cases, folder: str) -> None:
     """A large feature is one for people: its pieces are counted as one, and none is left when it becomes small."""
     words = ["--layer", "s", "--minzoom", "12", "--id", "nr", "--update"]
     with Server(folder, "pieces", 65536) as server:
-        for degrees, said in ((0.05, "1 new, 0 changed"), (0.05, "0 new, 0 changed"), (0.06, "0 new, 1 changed"), (0.004, "0 new, 1 changed")):
+        for degrees, said in (
+            (0.05, "1 new, 0 changed"),
+            (0.05, "0 new, 0 changed"),
+            (0.06, "0 new, 1 changed"),
+            (0.004, "0 new, 1 changed"),
+        ):
             path = written(folder, "growing.geojson", [row("Polygon", [square(20, 50, degrees)], nr=21)])
             code, lines = imported(path, server.url, *words)
             cases.show(f"updates: a square of {degrees} degrees", (code, lines[-1].startswith(said)), (0, True))
         cases.show("updates: no piece of it is left", list(listed(server)), [21])
         tagged = written(folder, "tagged.geojson", [row("Point", [at, at], nr=at, whole=21) for at in (21, 30, 31)])
         said = imported(tagged, server.url, "--layer", "t", "--id", "nr", "--first", "1000", "--update")[1][-1]
-        again = imported(tagged, server.url, "--layer", "t", "--id", "nr", "--first", "1000", "--update", "--delete-missing")[1][-1]
+        again = imported(
+            tagged, server.url, "--layer", "t", "--id", "nr", "--first", "1000", "--update", "--delete-missing"
+        )[1][-1]
         same = ("3 new, 0 changed, 0 deleted, 0 unchanged", "0 new, 0 changed, 0 deleted, 3 unchanged")
         cases.show("updates: tags that only look like those of pieces", (said, again), same)
 
@@ -160,14 +224,23 @@ def like_outlines(cases: Cases, folder: str) -> None:
     """A layer whose name ends as those of outlines do is nobody else's."""
     words = ["--minzoom", "12", "--id", "nr", "--update", "--delete-missing"]
     with Server(folder, "outlines", 65536) as server:
-        lines, large = written(folder, "lines.geojson", points(9)), written(folder, "large.geojson", [row("Polygon", [square(20, 50, 0.05)], nr=21)])
-        ways = [(lines, server.url, "--layer", "coast-outline", "--first", "100", *words), (large, server.url, "--layer", "coast", *words)]
+        lines, large = written(folder, "lines.geojson", points(9)), written(
+            folder, "large.geojson", [row("Polygon", [square(20, 50, 0.05)], nr=21)]
+        )
+        ways = [
+            (lines, server.url, "--layer", "coast-outline", "--first", "100", *words),
+            (large, server.url, "--layer", "coast", *words),
+        ]
         for way in ways:
             imported(*way)
         before = listed(server)
         ends = [imported(*way)[1][-1] for way in ways]
         same = [f"0 new, 0 changed, 0 deleted, {count} unchanged" for count in (9, 1)]
-        cases.show("updates: a layer of the name of outlines, beside one that has some", (ends, listed(server) == before), (same, True))
+        cases.show(
+            "updates: a layer of the name of outlines, beside one that has some",
+            (ends, listed(server) == before),
+            (same, True),
+        )
         small = written(folder, "large.geojson", [row("Polygon", [square(20, 50, 0.004)], nr=21)])
         said = imported(small, server.url, "--layer", "coast", *words)[1][-1]
         wanted = ("0 new, 1 changed, 0 deleted, 0 unchanged", {"coast": 1, "coast-outline": 9})
@@ -189,27 +262,50 @@ def by_texts(cases: Cases, folder: str) -> None:
     with Server(folder, "texts", 65536) as server:
         curl(server.url + "/features/40", "-X", "PUT", body=feature("other"))
         first = written(folder, "texts1.geojson", named([f"HY-{at:04}" for at in range(100)]))
-        cases.show("updates: texts as ids", imported(first, server.url, "--layer", "h", *words)[1][-1], "100 new, 0 changed, 0 deleted, 0 unchanged")
+        cases.show(
+            "updates: texts as ids",
+            imported(first, server.url, "--layer", "h", *words)[1][-1],
+            "100 new, 0 changed, 0 deleted, 0 unchanged",
+        )
         before = numbers()
         cases.show("updates: the next free ids", sorted(before.values()), list(range(41, 141)))
         second = written(folder, "texts2.geojson", named(["ä\u2028\n", *[f"HY-{at:04}" for at in range(99, 0, -1)]]))
-        cases.show("updates: in another order, one gone, one new", imported(second, server.url, "--layer", "h", *words)[1][-1].split(",")[0], "1 new")
-        cases.show("updates: no id has changed", {key: number for key, number in numbers().items() if key in before}, before)
-        cases.show("updates: each id has its feature", {one["tags"]["name"]: number for number, one in listed(server).items() if one["layer"] == "h"},
-                   {name: number for (_, name), number in numbers().items() if name != "HY-0000"})
+        cases.show(
+            "updates: in another order, one gone, one new",
+            imported(second, server.url, "--layer", "h", *words)[1][-1].split(",")[0],
+            "1 new",
+        )
+        cases.show(
+            "updates: no id has changed", {key: number for key, number in numbers().items() if key in before}, before
+        )
+        cases.show(
+            "updates: each id has its feature",
+            {one["tags"]["name"]: number for number, one in listed(server).items() if one["layer"] == "h"},
+            {name: number for (_, name), number in numbers().items() if name != "HY-0000"},
+        )
         imported(second, server.url, "--layer", "again", *words)
         both = numbers()
-        cases.show("updates: the same texts of another layer are other features", both["h", "HY-0007"] != both["again", "HY-0007"], True)
+        cases.show(
+            "updates: the same texts of another layer are other features",
+            both["h", "HY-0007"] != both["again", "HY-0007"],
+            True,
+        )
         lost = [*words[:3], ids + ".lost", *words[4:]]
         code, lines = imported(second, server.url, "--layer", "h", *lost)
-        cases.show("updates: a file of ids that was lost", (code, lines[-1], len(listed(server))), (1, "nothing was sent", 201))
+        cases.show(
+            "updates: a file of ids that was lost", (code, lines[-1], len(listed(server))), (1, "nothing was sent", 201)
+        )
         code, lines = imported(second, server.url, "--layer", "h", *words[:2])
         cases.show("updates: texts without a file for them", (code, lines[-1]),
                    (1, r"id has texts ('ä\u2028\n'): --ids FILE keeps ids for them: nothing was sent"))
         own = [{**row("Point", [at, 1]), "id": number} for at, number in enumerate((500, 502, 501))]
         code, lines = imported(written(folder, "own.geojson", own), server.url, "--layer", "own", "--id", "id")
         places = {number: one["geometry"]["points"] for number, one in listed(server).items() if one["layer"] == "own"}
-        cases.show("updates: GeoJSON's own ids", (code, sorted(places), is_near(places[502], [world(1, 1)])), (0, [500, 501, 502], True))
+        cases.show(
+            "updates: GeoJSON's own ids",
+            (code, sorted(places), is_near(places[502], [world(1, 1)])),
+            (0, [500, 501, 502], True),
+        )
 
 
 def others_meanwhile(cases: Cases, folder: str) -> None:
@@ -229,7 +325,9 @@ def others_meanwhile(cases: Cases, folder: str) -> None:
             before = between.url
         said = "feature 7 refused: somebody else has changed it meanwhile"
         wanted = (1, True, "99 new, 0 changed, 0 deleted, 0 unchanged, 1 changed by others meanwhile")
-        cases.show("updates: what somebody else changes meanwhile is left and told", (code, said in lines, lines[-1]), wanted)
+        cases.show(
+            "updates: what somebody else changes meanwhile is left and told", (code, said in lines, lines[-1]), wanted
+        )
         cases.show("updates: it is theirs", shown(server, 7), json.loads(theirs))
         edits = status(server)["edits"]
         changed = written(folder, "meanwhile2.geojson", points(100, more="x"))
@@ -246,7 +344,11 @@ def others_meanwhile(cases: Cases, folder: str) -> None:
         child.wait()
         code, lines = imported(many, server.url, *words)
         sums = [int(part.split()[0].replace(",", "")) for part in lines[-1].split(", ")]
-        cases.show("updates: a killed import, run again", (code, sum(sums), sums[3] > 0, len(listed(server))), (0, 3000, True, 3000))
+        cases.show(
+            "updates: a killed import, run again",
+            (code, sum(sums), sums[3] > 0, len(listed(server))),
+            (0, 3000, True, 3000),
+        )
         gone = server.url
     code, lines = imported(path, gone, *words)
     cases.show("updates: no server", code, 3)
@@ -265,21 +367,37 @@ def tables(cases, folder, server):
         code, lines = imported(path, server.url, *words)
         layer = name.removesuffix(".csv")
         found = [one["geometry"]["points"] for one in listed(server).values() if one["layer"] == layer]
-        cases.show(f"updates: {name}", (code, len(found) == 1 and is_near(found[0], [world(7.5, 54.5)], 200)), (0, True))
-        cases.show(f"updates: {name}, one without a place", "note: they have no geometry, and aren't put: 1 feature" in lines, True)
+        cases.show(
+            f"updates: {name}", (code, len(found) == 1 and is_near(found[0], [world(7.5, 54.5)], 200)), (0, True)
+        )
+        cases.show(
+            f"updates: {name}, one without a place",
+            "note: they have no geometry, and aren't put: 1 feature" in lines,
+            True,
+        )
     code, lines = imported(os.path.join(folder, "x_y.csv"), server.url)
-    cases.show("updates: a table whose columns aren't known", (code, "name the columns of its points by --x and --y" in lines[-1]), (1, True))
+    cases.show(
+        "updates: a table whose columns aren't known",
+        (code, "name the columns of its points by --x and --y" in lines[-1]),
+        (1, True),
+    )
     path = written(folder, "metres.geojson", [row("Point", [402861.31, 6040189.51])])
     code, lines = imported(path, server.url, "--crs", "EPSG:25832")
     found = [one["geometry"]["points"] for one in listed(server).values() if one["layer"] == "metres"]
-    cases.show("updates: --crs of GeoJSON", (code, len(found) == 1 and is_near(found[0], [world(7.5, 54.5)], 200)), (0, True))
+    cases.show(
+        "updates: --crs of GeoJSON", (code, len(found) == 1 and is_near(found[0], [world(7.5, 54.5)], 200)), (0, True)
+    )
     pack = os.path.join(folder, "two.gpkg")
     for name, count in (("alpha", 200), ("beta", 1)):
         source = written(folder, f"{name}.geojson", points(count))
-        subprocess.run(["ogr2ogr", "-f", "GPKG", "-update", "-append", pack, source, "-nln", name], check=True, capture_output=True)
+        subprocess.run(
+            ["ogr2ogr", "-f", "GPKG", "-update", "-append", pack, source, "-nln", name], check=True, capture_output=True
+        )
     code, lines = imported(pack, server.url)
     found = layers(server)
-    cases.show("updates: each layer of a GeoPackage by its name", (code, found.get("alpha"), found.get("beta")), (0, 200, 1))
+    cases.show(
+        "updates: each layer of a GeoPackage by its name", (code, found.get("alpha"), found.get("beta")), (0, 200, 1)
+    )
 
 
 def updates(cases: Cases, folder: str) -> None:

@@ -135,8 +135,16 @@ def persons(cases, folder, server):
             for _ in range(2):
                 curl(gis.url, *fields, body=f"<Transaction {GML}>{action}</Transaction>")
             told = [line.split(": ")[1:] for line in gateway.end()[1] if line.startswith("saved: ")]
-        cases.show(f"wfs-hostile: a name {'with' if words else 'without'} --behind-nginx", [name for name, _ in told], [wanted] * 2)
-        cases.show("wfs-hostile: the log says what was sent again", [made.split(",")[0] for _, made in told], ["1 new", "1 sent again"])
+        cases.show(
+            f"wfs-hostile: a name {'with' if words else 'without'} --behind-nginx",
+            [name for name, _ in told],
+            [wanted] * 2,
+        )
+        cases.show(
+            "wfs-hostile: the log says what was sent again",
+            [made.split(",")[0] for _, made in told],
+            ["1 new", "1 sent again"],
+        )
 
 
 # ---- filters

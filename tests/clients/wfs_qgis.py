@@ -1,5 +1,5 @@
-"""The part `wfs-qgis` of run.py: QGIS, by its Python module and without a window, edits the live map by the WFS of `vtmap wfs`, and reads it by its
-OGC API Features. Somebody else edits the map meanwhile."""
+"""The part `wfs-qgis` of run.py: QGIS, by its Python module and without a window, edits the live map by the WFS of
+`vtmap wfs`, and reads it by its OGC API Features. Somebody else edits the map meanwhile."""
 import json
 import os
 import shutil
@@ -232,13 +232,28 @@ class Desk:
 
     def reads(self):
         found = self.said(READ)
-        counts = [["building.areas", 318, 318, "MultiPolygon"], ["land.areas", 1, 1, "MultiPolygon"], ["park.areas", 3, 3, "MultiPolygon"],
-                  ["place.points", 5, 5, "Point"], ["road.lines", 12, 12, "MultiLineString"]]
+        counts = [
+            ["building.areas", 318, 318, "MultiPolygon"],
+            ["land.areas", 1, 1, "MultiPolygon"],
+            ["park.areas", 3, 3, "MultiPolygon"],
+            ["place.points", 5, 5, "Point"],
+            ["road.lines", 12, 12, "MultiLineString"],
+        ]
         self.show("each layer, whole", [row[:4] for row in found if len(row) == 6], counts * 2)
-        fields = [["feature_id", "qlonglong"], ["floors", "qlonglong"], ["house", "qlonglong"], ["minzoom", "int"], ["maxzoom", "int"]]
+        fields = [
+            ["feature_id", "qlonglong"],
+            ["floors", "qlonglong"],
+            ["house", "qlonglong"],
+            ["minzoom", "int"],
+            ["maxzoom", "int"],
+        ]
         self.show("its system and fields", (found[0][4], found[0][5]), ("EPSG:3857", fields))
         filtered = [row for row in found if len(row) == 3]
-        self.show("filters find the same by both versions", (filtered[:4] == filtered[4:], all(row[0] and row[1] == row[2] for row in filtered)), (True, True))
+        self.show(
+            "filters find the same by both versions",
+            (filtered[:4] == filtered[4:], all(row[0] and row[1] == row[2] for row in filtered)),
+            (True, True),
+        )
         self.show("as many as there are", [row[1] for row in filtered[2:4]], [0, 11])
 
     def edits(self):
@@ -251,37 +266,77 @@ class Desk:
         self.show("a new feature, and what it was changed to", self.tags(456), {"name": "Newer"})
         number = found[2][0]
         self.show("a road that was moved and moved back", feature_at(self.url, number) == before[number], True)
-        pieces = [feature["tags"]["name"] for feature in map_at(self.url).values() if feature["tags"].get("whole") == 101]
+        pieces = [
+            feature["tags"]["name"] for feature in map_at(self.url).values() if feature["tags"].get("whole") == 101
+        ]
         self.show("a tag of all pieces of a cut feature", (len(pieces) > 1, set(pieces)), (True, {"Land"}))
         now = map_at(self.url)
-        floors = [now[number]["tags"]["floors"] - feature["tags"]["floors"] for number, feature in before.items() if feature["layer"] == "building"]
+        floors = [
+            now[number]["tags"]["floors"] - feature["tags"]["floors"]
+            for number, feature in before.items()
+            if feature["layer"] == "building"
+        ]
         self.show("all 318 buildings", floors, [10] * 318)
         self.cases.say(f"by {edits_at(self.url) - edits} edits")
 
     def conflict(self):
         put_at(self.url, 451, name="Town Hall")
         first, second, shown, last, panned = self.said(CONFLICT)
-        text = "nothing of this was saved, since others have changed features meanwhile: place 453 (now kind: None -> 'school', name: 'School' -> 'theirs')"
+        text = (
+            "nothing of this was saved, since others have changed features meanwhile: place 453 (now kind: None ->"
+            " 'school', name: 'School' -> 'theirs')"
+        )
         self.show("what others have changed is refused, and QGIS shows it", text in first, True)
         self.show("again without F5", text in second, True)
         self.show("after F5 both are shown", ("mine 451" in shown, "theirs" in shown), (True, True))
-        self.show("and the next Save is put over it", (last, self.tags(453)), (True, {"name": "mine 453", "kind": "school"}))
+        self.show(
+            "and the next Save is put over it", (last, self.tags(453)), (True, {"name": "mine 453", "kind": "school"})
+        )
         wanted = [["Church", "Newer"], ["Church", "Newer"], ["By others", "Newer"]]
         self.show("panned, QGIS shows no feature twice", [sorted(names) for names in panned], wanted)
 
     def forms(self):
         """A project with forms by a schema, which is gone again then."""
         path = os.path.join(self.folder, "schema.json")
-        fields = {"roof": {"choices": ["flat", "hip"], "label": "Roof"}, "built": {"type": "date", "required": True}, "listed": {"type": "boolean"},
-                  "floors": {"type": "integer"}, "house": {"type": "integer"}}
+        fields = {
+            "roof": {"choices": ["flat", "hip"], "label": "Roof"},
+            "built": {"type": "date", "required": True},
+            "listed": {"type": "boolean"},
+            "floors": {"type": "integer"},
+            "house": {"type": "integer"},
+        }
         with open(path, "w", encoding="utf-8") as file:
-            json.dump({"layers": {"building": {"title": "Houses", "label": "house", "fields": fields}, "tree": {"kinds": ["points"]}}}, file)
-        words = ["qgis", os.path.join(self.folder, "forms.qgs"), "--edit", "--url", self.own, "--schema", path, "--maxzoom", "16", "--centre", "7.5,54.5"]
+            json.dump(
+                {
+                    "layers": {
+                        "building": {"title": "Houses", "label": "house", "fields": fields},
+                        "tree": {"kinds": ["points"]},
+                    }
+                },
+                file,
+            )
+        words = [
+            "qgis",
+            os.path.join(self.folder, "forms.qgs"),
+            "--edit",
+            "--url",
+            self.own,
+            "--schema",
+            path,
+            "--maxzoom",
+            "16",
+            "--centre",
+            "7.5,54.5",
+        ]
         told = subprocess.run([*VTMAP, *words], capture_output=True, text=True, check=False)
         self.show("a project with forms is written", (told.returncode, told.stderr), (0, ""))
         found = self.said(FORMS)
         names = ["Houses (areas)", "land (areas)", "park (areas)", "place (points)", "road (lines)", "tree (points)"]
-        self.show("QGIS opens it, with an empty layer too", (found[0], [name for name in found[1] if name != "vtserve"]), (True, names))
+        self.show(
+            "QGIS opens it, with an empty layer too",
+            (found[0], [name for name in found[1] if name != "vtserve"]),
+            (True, names),
+        )
         none = ["", "{2839923C-8B7D-419E-B84B-CA2FE9B80EC7}"]
         choices = [[*one.items()][0] if isinstance(one, dict) else one for one in found[2][4]]
         self.show("it has a list of the choices", found[2][:4], ["roof", "ValueMap", "Roof", False])
@@ -298,10 +353,17 @@ class Desk:
         self.gateway = self.own
         found = self.said(EMPTY)
         told = str(found[0]).partition("nothing of this was saved: ")[2]
-        wanted = "it deletes 318 of the 318 features of building (areas). If that is meant, save once more within ten minutes"
+        wanted = (
+            "it deletes 318 of the 318 features of building (areas). If that is meant, save once more within ten"
+            " minutes"
+        )
         self.show("all buildings aren't deleted by one Save", told.startswith(wanted), True)
         fields = ["feature_id", "floors", "house", "roof", "minzoom", "maxzoom"]
-        self.show("saved once more they are, and the layer takes new ones", found[1:], [True, [fields, True], True, [fields, True], True])
+        self.show(
+            "saved once more they are, and the layer takes new ones",
+            found[1:],
+            [True, [fields, True], True, [fields, True], True],
+        )
         self.show("it is empty again", [one for one in map_at(self.url).values() if one["layer"] == "building"], [])
 
     def login(self, server, gateway):
@@ -312,16 +374,34 @@ class Desk:
             return
         people = os.path.join(self.folder, "people")
         with open(people, "w", encoding="utf-8") as file:
-            file.write("ann:" + subprocess.run(["openssl", "passwd", "-apr1", "secret"], capture_output=True, text=True, check=True).stdout)
+            file.write(
+                "ann:"
+                + subprocess.run(
+                    ["openssl", "passwd", "-apr1", "secret"], capture_output=True, text=True, check=True
+                ).stdout
+            )
         os.chmod(people, 0o644)
-        block = [("# auth_basic", "auth_basic"), ("/etc/vtserve/people", people), ("        deny all;\n", ""), ("127.0.0.1:8090", f"127.0.0.1:{gateway.port}")]
+        block = [
+            ("# auth_basic", "auth_basic"),
+            ("/etc/vtserve/people", people),
+            ("        deny all;\n", ""),
+            ("127.0.0.1:8090", f"127.0.0.1:{gateway.port}"),
+        ]
         with Nginx(nginx, self.folder, server, block) as front:
             self.gateway = front.url
             found = self.said(LOGIN)
-        self.show("behind nginx it logs in and saves; with a wrong password, and with none, there is no layer", found, [True, True, False, False])
+        self.show(
+            "behind nginx it logs in and saves; with a wrong password, and with none, there is no layer",
+            found,
+            [True, True, False, False],
+        )
         self.show("what it saved", self.tags(455), {"name": "By Ann"})
 
     def project(self):
         found = self.said(PROJECT)
-        self.show("a project that is opened again edits as before", (found[:3], self.tags(455)), ([True] * 3, {"name": "Light"}))
+        self.show(
+            "a project that is opened again edits as before",
+            (found[:3], self.tags(455)),
+            ([True] * 3, {"name": "Light"}),
+        )
         self.show("QGIS reads the OGC API by pages", found[3], [True, 318, "EPSG:4326"])

@@ -1,5 +1,6 @@
-"""The part `wfs-random` of run.py: four GIS by two gateways, and somebody by HTTP, edit a dozen features at random. A model says of each save whether
-it is made, what the map has then, and which features are conflicts. One gateway is started again now and then, with its file."""
+"""The part `wfs-random` of run.py: four GIS by two gateways, and somebody by HTTP, edit a dozen features at random.
+A model says of each save whether it is made, what the map has then, and which features are conflicts. One gateway is
+started again now and then, with its file."""
 import copy
 import json
 import os
@@ -26,7 +27,8 @@ def wfs_random(cases: Cases, folder: str) -> None:
 
 
 class Person:
-    """A GIS, and what it has of each feature by the model; conflicts that it was told of, and those whose version it has loaded since."""
+    """A GIS, and what it has of each feature by the model; conflicts that it was told of, and those whose version it
+    has loaded since."""
 
     def __init__(self, gateway):
         self.gis, self.has, self.told, self.seen = Gis(gateway, "p.points"), {}, {}, {}
@@ -50,9 +52,22 @@ class World:
 
     def __init__(self, server, folder):
         self.url, self.folder, self.state = server.url, folder, os.path.join(folder, "state")
-        self.random, self.values, self.counts = random.Random(SEED), 0, dict.fromkeys(("loads", "others", "starts", "conflicts", "saves"), 0)
+        self.random, self.values, self.counts = (
+            random.Random(SEED),
+            0,
+            dict.fromkeys(("loads", "others", "starts", "conflicts", "saves"), 0),
+        )
         for number in range(1, 13):
-            self.put(number, {"layer": "p", "minzoom": 0, "maxzoom": 2, "geometry": {"points": [[number, number]]}, "tags": {"a": "0", "b": "0"}})
+            self.put(
+                number,
+                {
+                    "layer": "p",
+                    "minzoom": 0,
+                    "maxzoom": 2,
+                    "geometry": {"points": [[number, number]]},
+                    "tags": {"a": "0", "b": "0"},
+                },
+            )
         self.gateways = [Gateway(folder, self.url, "--state", self.state), Gateway(folder, self.url)]
         self.people = [Person(self.gateways[at % 2]) for at in range(4)]
         for person in self.people:
@@ -125,7 +140,9 @@ class World:
         """What isn't right of a save that is to be refused."""
         self.counts["conflicts"] += 1
         person.told.update((number, now.get(number)) for number in conflicts)
-        is_named = told.startswith("nothing of this was saved, since others") and all(f"p {number} (" in told for number in conflicts)
+        is_named = told.startswith("nothing of this was saved, since others") and all(
+            f"p {number} (" in told for number in conflicts
+        )
         return None if is_named and map_at(self.url) == now else ("refused", conflicts, told)
 
     def saved(self, person, wanted, numbers, added, told):
@@ -141,6 +158,10 @@ class World:
             if number not in wanted:
                 del person.has[number]
                 person.gis.fids.pop(number, None)
-        differ = {number: (now.get(number), wanted.get(number)) for number in {*now, *wanted} if now.get(number) != wanted.get(number)}
+        differ = {
+            number: (now.get(number), wanted.get(number))
+            for number in {*now, *wanted}
+            if now.get(number) != wanted.get(number)
+        }
         is_added = not added or len(told.split()) == 2
         return None if told.startswith("SUCCESS") and not differ and is_added else ("saved", told, differ)

@@ -2,10 +2,11 @@
 
     python3 windows_stand_in.py COMMAND ..
 
-Taken away are the modules, the functions and the signals that Windows hasn't got. Files are opened as there: texts are cp1252 with `\\r\\n` unless the
-caller says otherwise, bytes are only read as they are with O_BINARY, and what a process has open nobody renames, replaces or removes. Locks are
-those of `msvcrt`: of bytes that nobody else can read. Standard output is a file in cp1252. What isn't like Windows: paths have slashes, the kernel
-is Linux's, and GDAL is Debian's.
+Taken away are the modules, the functions and the signals that Windows hasn't got. Files are opened as there: texts
+are cp1252 with `\\r\\n` unless the caller says otherwise, bytes are only read as they are with O_BINARY, and what a
+process has open nobody renames, replaces or removes. Locks are those of `msvcrt`: of bytes that nobody else can
+read. Standard output is a file in cp1252. What isn't like Windows: paths have slashes, the kernel is Linux's, and
+GDAL is Debian's.
 """
 # What looks at the system while it is loaded is loaded before the system looks different.
 import argparse  # noqa: F401
@@ -42,11 +43,13 @@ except ImportError:
     pass
 
 MODULES = ("fcntl", "grp", "posix", "pty", "pwd", "readline", "resource", "spwd", "syslog", "termios", "tty")
-FUNCTIONS = """chown chroot confstr ctermid fchmod fchown fork forkpty getegid geteuid getgid getgroups getloadavg getpgid getpgrp getpriority getresgid
-    getresuid getsid getuid getxattr initgroups killpg lchown listxattr lockf mkfifo mknod nice openpty pathconf pipe2 posix_fadvise posix_fallocate
-    posix_spawn posix_spawnp pread preadv pwrite pwritev readv register_at_fork removexattr sched_getaffinity sched_setaffinity sendfile setegid
-    seteuid setgid setgroups setpgid setpriority setregid setreuid setsid setuid setxattr statvfs fstatvfs sync fdatasync sysconf tcgetpgrp
-    tcsetpgrp ttyname uname wait wait3 wait4 waitid writev O_CLOEXEC O_DIRECTORY O_DSYNC O_NOCTTY O_NOFOLLOW O_NONBLOCK O_SYNC""".split()
+FUNCTIONS = """chown chroot confstr ctermid fchmod fchown fork forkpty getegid geteuid getgid getgroups getloadavg getpgid
+    getpgrp getpriority getresgid getresuid getsid getuid getxattr initgroups killpg lchown listxattr lockf mkfifo
+    mknod nice openpty pathconf pipe2 posix_fadvise posix_fallocate posix_spawn posix_spawnp pread preadv pwrite
+    pwritev readv register_at_fork removexattr sched_getaffinity sched_setaffinity sendfile setegid seteuid setgid
+    setgroups setpgid setpriority setregid setreuid setsid setuid setxattr statvfs fstatvfs sync fdatasync sysconf
+    tcgetpgrp tcsetpgrp ttyname uname wait wait3 wait4 waitid writev O_CLOEXEC O_DIRECTORY O_DSYNC O_NOCTTY
+    O_NOFOLLOW O_NONBLOCK O_SYNC""".split()
 SIGNALS = ("SIGABRT", "SIGFPE", "SIGILL", "SIGINT", "SIGSEGV", "SIGTERM")
 O_BINARY = 1 << 40
 open_file, open_number, replace, rename, remove = io.open, os.open, os.replace, os.rename, os.remove
@@ -75,7 +78,11 @@ def guarded(call):
         if not more:
             for path in paths:
                 if has_open(path):
-                    raise PermissionError(errno.EACCES, "The process cannot access the file because it is being used by another process", path)
+                    raise PermissionError(
+                        errno.EACCES,
+                        "The process cannot access the file because it is being used by another process",
+                        path,
+                    )
         return call(*paths, **more)
 
     return called
@@ -134,7 +141,9 @@ def become_windows():
 
 
 if __name__ == "__main__":
-    sys.path.insert(0, os.environ.get("VTMAP_PLACE") or os.path.join(os.path.dirname(os.path.abspath(__file__)), "..", ".."))
+    sys.path.insert(
+        0, os.environ.get("VTMAP_PLACE") or os.path.join(os.path.dirname(os.path.abspath(__file__)), "..", "..")
+    )
     become_windows()
     from vtmap.command_line import main
 

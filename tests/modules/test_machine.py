@@ -31,7 +31,9 @@ class MapFiles(unittest.TestCase):
             self.assertRaises(Wrong, map_file.box, text)
 
     def test_a_new_map_takes_ports_and_names_that_are_free(self):
-        self.assertEqual(map_file.new_map("west", None, [], (), [NORTH, SOUTH]), MapHere("west", 8104, 8105, pictures=18104))
+        self.assertEqual(
+            map_file.new_map("west", None, [], (), [NORTH, SOUTH]), MapHere("west", 8104, 8105, pictures=18104)
+        )
         self.assertEqual(map_file.new_map("west", None, [], (), [SOUTH]), MapHere("west", 8100, 8101, pictures=18100))
         for other in (MapHere("x", 8100, 9000), MapHere("x", 9000, 8101)):
             self.assertEqual(map_file.new_map("west", None, [], (), [other]).port, 8102)
@@ -41,7 +43,12 @@ class MapFiles(unittest.TestCase):
         self.assertRaises(Refused, map_file.new_map, "west", None, ["north.example.org"], (), [NORTH])
 
     def test_the_port_of_pictures_is_free(self):
-        for port, others, wanted in ((8100, [], 18100), (60000, [], 50000), (8100, [MapHere("x", 18100, 18101)], 18102), (60000, [MapHere("x", 50000, 1)], 49999)):
+        for port, others, wanted in (
+            (8100, [], 18100),
+            (60000, [], 50000),
+            (8100, [MapHere("x", 18100, 18101)], 18102),
+            (60000, [MapHere("x", 50000, 1)], 49999),
+        ):
             self.assertEqual(map_file.new_map("west", port, [], (), others).pictures, wanted)
         self.assertRaises(Refused, map_file.new_map, "west", 18100, [], (), [MapHere("x", 8100, 8101, pictures=18100)])
         old = MapHere("old", 8100, 8101)
