@@ -1,13 +1,15 @@
 """Tests of vtmap/client/rows.py, and of what a standby is sent by it: a server of a few lines answers on a real connection."""
+import io
 import json
 import socket
 import threading
 import unittest
+from unittest import mock
 
 import stand  # noqa: F401  (the path of vtmap)
 from vtmap.client.client import Client, Lost
 from vtmap.client.feed import Standby
-from vtmap.client.rows import WINDOW
+from vtmap.client.rows import WINDOW, Request, in_a_row
 
 
 class Answers(threading.Thread):
@@ -80,6 +82,14 @@ class InARow(unittest.TestCase):
         self.assertEqual(next(replies), (200, b"0"))
         with self.assertRaises(Lost):
             next(replies)
+
+
+    def test_replies_that_came_before_a_break_are_read(self):
+        sent = mock.Mock(side_effect=[None, BrokenPipeError(32, "Broken pipe")])
+        connection = mock.Mock(sendall=sent, makefile=lambda _: io.BytesIO(b"HTTP/1.1 200 OK\r\ncontent-length: 1\r\n\r\n0"))
+        replies = in_a_row(connection, [Request("POST", "/", b"")] * 3, "host", {})
+        self.assertEqual(next(replies), (200, b"0"))
+        self.assertRaises(BrokenPipeError, next, replies)
 
 
 class StandbyInARow(unittest.TestCase):

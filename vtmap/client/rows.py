@@ -48,16 +48,23 @@ def head_of(request: Request, host: str, fields: dict[str, str]) -> bytes:
 
 
 def in_a_row(connection: socket.socket, requests: Iterable[Request], host: str, fields: dict[str, str]) -> Iterator[tuple[int, bytes]]:
-    """The replies to these requests, in order. Whoever takes no more of them has those read that are owed, so that the connection can go on."""
-    replies, owed = Replies(connection), deque[str]()
+    """The replies to these requests, in order. If one can't be sent, those that have come before are returned first. Whoever takes no more of them has
+    those read that are owed, so that the connection can go on."""
+    replies, owed, broken = Replies(connection), deque[str](), None
     try:
         for request in requests:
             if len(owed) == WINDOW:
                 yield replies.next(owed.popleft())
-            connection.sendall(head_of(request, host, fields) + request.body)
+            try:
+                connection.sendall(head_of(request, host, fields) + request.body)
+            except OSError as fault:
+                broken = fault
+                break
             owed.append(request.method)
         while owed:
             yield replies.next(owed.popleft())
+        if broken:
+            raise broken
     except GeneratorExit:
         for method in owed:
             replies.next(method)
