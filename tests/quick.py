@@ -67,6 +67,7 @@ PARTS = [
     client("wfs"),
     client("import"),
     client("trail"),
+    client("past"),
     client("short-files"),
     client("batches"),
     page_of("docs/DEPLOYING.md"),

@@ -35,6 +35,8 @@ COMMANDS = {
     "follow": ("follow", "follows the edits of a server: into standbys, into a log, or both"),
     "log": ("log", "tells who changed what, and when, by that log"),
     "undo": ("undo", "takes edits back: one, several, or a whole import"),
+    "at": ("at", "writes the map of an earlier time into a file"),
+    "diff": ("diff", "tells what two times of the map differ in: by feature, layer and person, as GeoJSON too"),
     "draw": ("draw", "draws a part of the map into a PNG file"),
 }
 ABOUT = """Works on the map of a running vtserve: imports, exchange with QGIS, backups, publications, and who changed what.

@@ -49,6 +49,7 @@ from clients.page_hands import page_hands  # noqa: E402
 from clients.page_print import page_print  # noqa: E402
 from clients.page_tools import page_tools  # noqa: E402
 from clients.pages import page  # noqa: E402
+from clients.past import past  # noqa: E402
 from clients.pictures import by_qgis, wmts  # noqa: E402
 from clients.refusals import refused_features, refused_requests  # noqa: E402
 from clients.replicas import replicas  # noqa: E402
@@ -141,6 +142,7 @@ def main():
         "takeover": takeover,
         "replicas": replicas,
         "trail": trail,
+        "past": past,
         "disk-full": disk_full,
         "kills": kills,
         "nginx": in_front,

@@ -144,6 +144,8 @@ def log_of(path):
     found = {}
     with open(path, encoding="utf-8") as file:
         for row in map(json.loads, file):
+            if "begins" in row:
+                continue
             if row.get("edit", None) in found or "missed" in row:
                 return row
             found[row["edit"]] = {

@@ -35,6 +35,8 @@ NAMES = [
     "follow",
     "log",
     "undo",
+    "at",
+    "diff",
     "draw",
 ]
 OLD = {
@@ -160,10 +162,11 @@ def listings(cases: Cases, folder: str) -> None:
                 curl(front.url + "/features/7")
                 with open(os.path.join(front.folder, "access.log"), encoding="utf-8") as file:
                     lines = file.read().splitlines()
+            # A list is between two looks at the number of the last edit.
             cases.show(
                 "toolbox: nginx logs no list of features",
                 [line.split('"')[1].split()[1] for line in lines],
-                ["/admin/status", "/features/7"],
+                ["/admin/status", "/admin/status", "/features/7"],
             )
 
 

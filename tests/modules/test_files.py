@@ -336,7 +336,8 @@ class Logs(stand.InFolder):
             ('{"edit":5,"x":"%s"}\n' % ("x" * 300_000), 5),
         ]:
             path = self.path("log", text)
-            self.assertEqual(edit_log.EditLog(path).last_number(), wanted)
+            last = edit_log.EditLog(path).last_row()
+            self.assertEqual(last and edit_log.last_of(last), wanted)
             with open(path, encoding="utf-8") as file:
                 self.assertEqual(file.read(), text[: text.rfind("\n") + 1])
 

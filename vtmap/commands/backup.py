@@ -2,6 +2,7 @@
 import json
 import os
 from collections import Counter
+from datetime import datetime, timezone
 from itertools import chain
 
 from ..client.client import Client, word
@@ -11,6 +12,7 @@ from ..faults import Refused, Stopped
 from ..files.archive_ids import ids_in
 from ..files.attachments import PATH, Attachments, Use, saved as copied
 from ..files.disk_file import moment_of
+from ..files.past import drop_number, keep_number
 from ..geometry.geojson import feature_of, geojson_of
 from ..geometry.wholes import right_handed, wholes_of
 from ..limits import MOST_CHANGES
@@ -46,7 +48,8 @@ Without --wholes each ring is saved in the direction that it has in the map, so 
 beside FILE: those that aren't there yet, since none ever changes. It names files that features name and
 the folder lacks, and ends with 1 if one is damaged; all else is saved then.
 
-FILE is as it was until all features are there; what was got by then is in FILE.part.""",
+FILE is as it was until all features are there; what was got by then is in FILE.part. FILE.at says of which edit the features are, if that is known:
+of a disk file, and of a server that wasn't edited meanwhile. `vtmap at` begins with such a save.""",
     "load": """Puts the features of a file that `vtmap save` wrote back into a map.
 
     vtmap load map.geojson --publish
@@ -61,9 +64,9 @@ START, END = '{"type":"FeatureCollection","features":[', "\n]}\n"
 START_OF_WHOLES = '{"type":"FeatureCollection","wholes":true,"features":['
 
 
-def listed(client):
-    """Each feature of the map with its id, in ascending order."""
-    if client.status() is None:
+def listed(client, status):
+    """Each feature of the map with its id, in ascending order. `status`: what the server tells of itself."""
+    if status is None:
         raise Refused("the server doesn't list its features: start it with --admin, or give --disk, --numbers or --archive")
     return client.features()
 
@@ -81,10 +84,15 @@ def ids_of_archive(client):
     return ids_in(archive)
 
 
-def wanted(words, client):
+def is_list(words):
+    """Whether the server's list of features is asked for."""
+    return words.numbers is None and not words.archive
+
+
+def wanted(words, client, status):
     """Each id that is asked for, with its feature or None."""
-    if words.numbers is None and not words.archive:
-        return listed(client)
+    if is_list(words):
+        return listed(client, status)
     numbers = ids_of_archive(client) if words.archive else chain.from_iterable(words.numbers)
     return ((number, client.feature(number)) for number in numbers)
 
@@ -113,6 +121,12 @@ def written(path, features, start):
         os.fsync(file.fileno())
     put_in_place(path + ".part", path)
     return saved
+
+
+def edit_of(client, before):
+    """The edit of what was listed since a status; None if that isn't known, or others were made meanwhile."""
+    after = client.status() if before else None
+    return after["edits"] if after and after["edits"] == before["edits"] else None
 
 
 def files_beside(path):
@@ -146,8 +160,12 @@ def load_files(words, rows):
 
 def save(words):
     """Saves features in the file."""
+    begun = datetime.now(timezone.utc)
     moment = moment_of(words.disk) if words.disk else None
-    found = moment.features.items() if moment else wanted(words, Client(words.url))
+    client = None if moment else Client(words.url)
+    before = client.status() if client and is_list(words) else None
+    by = datetime.now(timezone.utc)
+    found = moment.features.items() if moment else wanted(words, client, before)
     missing, use = [], Use({})
 
     def there():
@@ -160,6 +178,12 @@ def save(words):
 
     features = ((whole.number, right_handed(whole.feature)) for whole in wholes_of(there())) if words.wholes else there()
     saved = written(words.file, features, START_OF_WHOLES if words.wholes else START)
+    after = begun if moment else datetime.now(timezone.utc)
+    edit = moment.edit if moment else edit_of(client, before)
+    if edit is None or words.wholes:
+        drop_number(words.file)
+    else:
+        keep_number(words.file, edit, by, after)
     of_moment = f", of the map after edit {moment.edit:,}" if moment else ""
     of_ids = f", {len(missing)} ids without one" if words.numbers or words.archive else ""
     print(f"{saved} features saved{of_moment}{of_ids}")

@@ -1,16 +1,24 @@
-"""`vtmap draw`: a client that reads tiles by HTTP, decodes them by itself and draws them. Needs Pillow."""
+"""`vtmap draw`: a client that reads tiles by HTTP, decodes them by itself and draws them; or draws an earlier map. Needs Pillow."""
+import json
+
 from ..client.client import Client, word
 from ..faults import Stopped
 from ..files.vector_tile import BROKEN, decoded
+from ..geometry.tiles import shown_in
 from ..geometry.world import shares
 from ..interpreters import need
+from .at import fault_of as fault_of_base
+from .at import options_of_base, options_of_log, past_of, when
 
 ABOUT = {"draw": """Draws a part of the map into a PNG file: a client that reads tiles by HTTP and decodes them by itself.
 
     vtmap draw map.png --zoom 15 --centre 7.5,54.5 --size 768x512
+    vtmap draw tuesday.png --at 2026-11-24 --log edits.jsonl
 
 Each tile is 256 pixels wide. Layers are drawn in the order of those of examples/town.py, then all others. It needs Pillow (Debian:
-`python3-pil`)."""}
+`python3-pil`).
+
+--at TIME draws the map of an earlier time, without a server's tiles; TIME and the words from --log on are as those of `vtmap at`."""}
 
 
 def options(parser, _):
@@ -19,6 +27,16 @@ def options(parser, _):
     parser.add_argument("--zoom", type=int, choices=range(20), default=15, metavar="Z", help="the zoom of the tiles, 0 to 19 (15)")
     parser.add_argument("--centre", type=centre, default="7.5,54.5", help="longitude and latitude of the centre (7.5,54.5)")
     parser.add_argument("--size", type=size, default="768x512", help="pixels (768x512)")
+    parser.add_argument("--at", type=when, metavar="TIME", help="draw the map of this time, by the log of edits")
+    options_of_log(parser, False)
+    options_of_base(parser)
+
+
+def fault_of(words):
+    """What is wrong with the command line."""
+    if words.at is None:
+        return "--log, --nginx, --save, --of and --disk are for --at" if words.log or words.nginx or words.save or words.disk else fault_of_base(words)
+    return fault_of_base(words) if words.log else "--at needs --log"
 
 
 def centre(text):
@@ -55,6 +73,23 @@ def tiles_of(client, zoom, columns, rows):
     return tiles
 
 
+def drawn_now(words, columns, rows):
+    """The tiles of the server, by column and row."""
+    client = Client(words.url)
+    try:
+        return {place: decoded(content) for place, content in tiles_of(client, words.zoom, columns, rows).items()}
+    except BROKEN as fault:
+        raise Stopped(f"what answers at {client.address} sends no tiles: is --url right?") from fault
+
+
+def drawn_then(words, columns, rows):
+    """The tiles of an earlier map, by column and row."""
+    past = past_of(words, words.at)
+    print(past)
+    features = ((number, json.loads(feature)) for number, feature in past.features.items())
+    return shown_in(features, words.zoom, columns, rows)
+
+
 def work(words):
     """Draws, in an interpreter that has Pillow."""
     need("PIL", words.line)
@@ -63,11 +98,7 @@ def work(words):
     pixels, (east, south) = 256 * 2 ** words.zoom, shares(longitude, latitude)
     left, top = round(east * pixels) - width // 2, round(south * pixels) - height // 2
     columns, rows = tiles_within(left, width, words.zoom), tiles_within(top, height, words.zoom)
-    client = Client(words.url)
-    try:
-        tiles = {place: decoded(content) for place, content in tiles_of(client, words.zoom, columns, rows).items()}
-    except BROKEN as fault:
-        raise Stopped(f"what answers at {client.address} sends no tiles: is --url right?") from fault
+    tiles = (drawn_then if words.at else drawn_now)(words, columns, rows)
     names = [*STYLES, *sorted({name for layers in tiles.values() for name in layers} - set(STYLES))]
     picture = Picture(words.zoom, left, top, words.size)
     for name in names:

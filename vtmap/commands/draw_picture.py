@@ -1,6 +1,7 @@
 """What `vtmap draw` draws: tiles as they are decoded, by styles of its own. Needs Pillow."""
 from PIL import Image, ImageDraw, ImageFont
 
+from ..geometry.tiles import area
 from ..geometry.wholes import OUTLINE
 
 SHARPER = 4
@@ -22,11 +23,6 @@ def style_of(name):
         style = STYLES.get(name.removesuffix(OUTLINE), OTHER)
         return {"line": {None: (style["edge"], 0.5)}} if "edge" in style else {}
     return STYLES.get(name, OTHER)
-
-
-def area(ring):
-    """Twice the signed area of a ring: positive for an outer one."""
-    return sum(x * to_y - to_x * y for (x, y), (to_x, to_y) in zip(ring, ring[1:] + ring[:1]))
 
 
 class Picture:

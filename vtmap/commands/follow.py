@@ -4,6 +4,7 @@ import subprocess
 import sys
 import threading
 import time
+from datetime import datetime, timezone
 
 from ..client.client import FEED
 from ..client.feed import THEN, Leader, LeftBehind, Standby
@@ -93,11 +94,14 @@ class Follower:
 
     def pass_on(self):
         """Passes the edits of one reply on. Returns whether there are more."""
+        asked = datetime.now(timezone.utc)
         edits, last = self.leader.edits_from(self.sink.at + 1)
         if edits:
             if edits[-1]["edit"] < last:
                 self.leader.send_ahead(f"{FEED}/{edits[-1]['edit'] + 1}")
             self.sink.take(edits)
+        if isinstance(self.sink, EditLog) and (not edits or edits[-1]["edit"] == last):
+            self.sink.look(asked)
         if self.sink.at is None:
             self.begin()
         return self.sink.at < last

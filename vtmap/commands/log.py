@@ -52,17 +52,18 @@ def feature_of(change):
     return change.get("feature") or change.get("was")
 
 
-def rows_of(paths):
-    """The lines of a log, which may be several files."""
+def rows_of(paths, begins=False):
+    """The lines of a log, which may be several files; those too that say where it begins, if they are wanted."""
     for path in paths:
         for at, line in enumerate(lines_of(path), 1):
             try:
                 row = json.loads(line)
-                if "edit" not in row and "missed" not in row:
+                if "edit" not in row and "missed" not in row and "begins" not in row:
                     raise ValueError("no number")
             except (ValueError, TypeError) as fault:
                 raise Refused(f"{path}, line {at}: this isn't a line of `vtmap follow --log`: {fault}") from fault
-            yield row
+            if begins or "begins" not in row:
+                yield row
 
 
 def senders_of(paths):
@@ -74,15 +75,16 @@ def senders_of(paths):
     return senders
 
 
-def edits_of(paths, nginx):
-    """The edits of a log, each with the person and the time, those too that it misses and nginx's has; a row of others that are missing as it is."""
+def edits_of(paths, nginx, fills=True):
+    """The edits of a log, each with the person and the time; if it `fills`, those too that it misses and nginx's has, and else where it begins. A row of
+    others that are missing as it is."""
     senders = senders_of(nginx)
-    for row in Missed(lambda: rows_of(paths), lines_in(nginx)).rows() if nginx else rows_of(paths):
-        if "missed" in row:
+    for row in Missed(lambda: rows_of(paths), lines_in(nginx)).rows() if nginx and fills else rows_of(paths, not fills):
+        if "edit" not in row:
             yield row
             continue
         seen = time_of(row)
-        sent = senders.of(row["changes"], seen.timestamp())
+        sent = senders.of(row["changes"], seen.timestamp()) if nginx else None
         time = datetime.fromtimestamp(sent.time).astimezone() if sent else seen.astimezone()
         yield Edit(row["edit"], time, sent.person if sent else NOBODY, row["changes"], row)
     if senders.unread:

@@ -1,14 +1,17 @@
-"""The log of a map's edits: a file with a line for each. Needs no package.
+"""The log of a map's edits: a file with a line for each (docs/FORMATS.md). Needs no package.
 
+    {"time":"2026-11-29T12:00:00.000Z","begins":7}
     {"time":"2026-11-29T12:45:10.123Z","edit":7,"changes":[{"put":9,"feature":{..},"was":{..}},{"delete":8,"was":{..}}]}
     {"time":"2026-11-29T13:00:00.500Z","missed":[8,12]}
+    {"time":"2026-11-29T14:00:00.000Z","since":"2026-11-29T13:20:00.000Z","edit":13,"changes":[..]}
 
-A change is as the feed lists it, and `was` is what the map had of the feature before, `null` if nothing: as a checked edit has it. It is left
-out where that isn't known. `time` is when the edit was seen. For `was` the features of the map are kept in a second file (SQLite, FILE.map),
-which is made anew from the list of features where it is missing or too old. FILE.at has the number of the last edit, for a publication that
-waits for the log.
+A new log begins with the number of the next edit. A change is as the feed lists it, and `was` is what the map had of the feature before, `null` if nothing: as a checked edit has it. It is left
+out where that isn't known. `time` is when the edit was seen. If the server hadn't been asked for more than a second before, `since` is when it was
+asked last: the edit was made between the two. For `was` the features of the map are kept in a second file (SQLite, FILE.map), which is made anew from
+the list of features where it is missing or too old. FILE.at has the number of the last edit, for a publication that waits for the log.
 """
 import gzip
+import itertools
 import json
 import os
 import sqlite3
@@ -28,6 +31,8 @@ SCHEMA = """
     CREATE TABLE IF NOT EXISTS feature (id INTEGER PRIMARY KEY, json BLOB NOT NULL);
 """
 PIECE = 1 << 16
+# So many seconds after the server was asked an edit is seen that has just been made. How often it is kept when the server was asked.
+SOON, KEPT = 1, 10
 
 
 class KeptMap:
@@ -40,7 +45,9 @@ class KeptMap:
             self.file = sqlite3.connect(path, timeout=1, isolation_level=None)
             self.file.executescript(SCHEMA)
             known = dict(self.file.execute("SELECT name, number FROM known"))
-        self.at, self.sure = known.get("at"), known.get("sure", 0)
+        self.at, self.sure, looked = known.get("at"), known.get("sure", 0), known.get("looked")
+        # When it was known last that the server had no later edit.
+        self.looked = looked and datetime.fromtimestamp(looked / 1000, timezone.utc)
 
     @contextmanager
     def told(self):
@@ -59,7 +66,8 @@ class KeptMap:
             self.file.execute("BEGIN")
             try:
                 yield self.file
-                self.file.executemany("INSERT OR REPLACE INTO known VALUES (?, ?)", [("at", self.at), ("sure", self.sure)])
+                looked = [("looked", int(self.looked.timestamp() * 1000))] if self.looked else []
+                self.file.executemany("INSERT OR REPLACE INTO known VALUES (?, ?)", [("at", self.at), ("sure", self.sure), *looked])
                 self.file.execute("COMMIT")
             except BaseException:
                 self.at, self.sure = before
@@ -89,25 +97,30 @@ class KeptMap:
 
 
 class EditLog:
-    """A log that is written. `at` is the number of the last edit that its map has, and `logged` that of its last line."""
+    """A log that is written. `at` is the number of the last edit that its map has, and `logged` that of its last line. `looked`: when the server was
+    asked last for edits, as far as is known."""
 
     def __init__(self, path):
         self.path = self.address = path
-        self.at = self.logged = self.map = None
+        self.at = self.logged = self.map = self.looked = self.kept = None
 
     def begin(self, source):
         """Finds out where the log and its map are. A new log begins with the next edit."""
+        asked = datetime.now(timezone.utc)
         if self.map is None:
             self.map = KeptMap(self.path + ".map")
-            self.logged = self.last_number()
+            last = self.last_row()
+            self.logged = last_of(last) if last else None
+            self.looked = max(filter(None, [self.map.looked, last and time_of(last)]), default=asked)
         if self.map.at is None:
             self.map.list(source, self.logged)
         if self.logged is None:
+            self.write([{"begins": self.map.at + 1}])
             self.logged = self.map.at
         self.keep_number()
 
-    def last_number(self):
-        """The number of the last line, None if there is none. What a crash left of a line behind it is cut off."""
+    def last_row(self):
+        """The last line, None if there is none. What a crash left of a line behind it is cut off."""
         if not os.path.exists(self.path):
             return None
         with open(self.path, "r+b") as file:
@@ -123,12 +136,22 @@ class EditLog:
                 size *= 4
             file.truncate(begin + cut)
         line = text[:cut].rstrip(b"\n").rpartition(b"\n")[2]
-        return last_of(json.loads(line)) if line else None
+        return json.loads(line) if line else None
+
+    def look(self, time):
+        """Notes that the server had no later edit at a time."""
+        self.looked = time
+        if self.kept is None or (time - self.kept).total_seconds() >= KEPT:
+            self.kept = self.map.looked = time
+            with self.map.changed():
+                pass
 
     def take(self, edits):
         """Appends edits, the first of which is the one after the last."""
+        is_late = self.looked is not None and (datetime.now(timezone.utc) - self.looked).total_seconds() > SOON
+        since = {"since": text_of(self.looked)} if is_late else {}
         with self.map.changed():
-            rows = [{"edit": edit["edit"], "changes": [self.map.with_was(edit["edit"], change) for change in edit["changes"]]} for edit in edits]
+            rows = [{**since, "edit": edit["edit"], "changes": [self.map.with_was(edit["edit"], change) for change in edit["changes"]]} for edit in edits]
             self.write([row for row in rows if row["edit"] > self.logged])
             self.map.at = edits[-1]["edit"]
         self.logged = max(self.logged, self.map.at)
@@ -153,21 +176,42 @@ class EditLog:
         """Appends lines, and has them outlive a crash. The file may have been renamed since, as logrotate does: then another one begins."""
         if not rows:
             return
-        now = datetime.now(timezone.utc).isoformat(timespec="milliseconds").replace("+00:00", "Z")
+        now = text_of(datetime.now(timezone.utc))
         with open(self.path, "ab") as file:
             file.write(b"".join(json.dumps({"time": now, **row}, ensure_ascii=False, separators=(",", ":")).encode() + b"\n" for row in rows))
             file.flush()
             os.fsync(file.fileno())
 
 
-def time_of(row):
-    """When the edit of a line was seen. Python before 3.11 reads no `Z`."""
-    return datetime.fromisoformat(row["time"].replace("Z", "+00:00"))
+def text_of(time):
+    """A time as a line has it."""
+    return time.isoformat(timespec="milliseconds").replace("+00:00", "Z")
+
+
+def read_time(text):
+    """A time as a line, or a person, writes it. Python before 3.11 reads no `Z`."""
+    return datetime.fromisoformat(text.replace("Z", "+00:00"))
+
+
+def time_of(row, name="time"):
+    """When the edit of a line was seen."""
+    return read_time(row[name])
 
 
 def last_of(row):
     """The last edit that a line speaks of."""
-    return row["edit"] if "edit" in row else row["missed"][1]
+    return row["edit"] if "edit" in row else row["missed"][1] if "missed" in row else row["begins"] - 1
+
+
+def rotated(path):
+    """The files of a log that there are, as logrotate leaves them, the newest first. While nothing was written since, there is none of that name."""
+    if os.path.exists(path):
+        yield path
+    for number in itertools.count(1):
+        names = [name for name in (f"{path}.{number}", f"{path}.{number}.gz") if os.path.exists(name)]
+        if not names:
+            return
+        yield names[0]
 
 
 def lines_in(paths):
