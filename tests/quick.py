@@ -68,6 +68,7 @@ PARTS = [
     client("import"),
     client("trail"),
     client("past"),
+    client("history"),
     client("short-files"),
     client("batches"),
     page_of("docs/DEPLOYING.md"),

@@ -23,7 +23,8 @@ WORDS = "EnvironmentFile=/etc/vtserve/maps/%i\n"
 OWN = (
     (r"/var/lib/vtserve/map\.disk", "/var/lib/vtserve/%i/map.disk"),
     (r"(ReadWritePaths=/var/lib/vtserve|/var/backups/vtserve)(?=[ /\n])", r"\1/%i"),
-    (r"(/var/lib/vtserve-\w+)(?=/)", r"\1/%i"),
+    (r"/var/lib/vtserve-nginx/edits\.log", "/var/lib/vtserve-nginx/edits-%i.log"),
+    (r"(/var/lib/vtserve-(?!nginx)\w+)(?=/)", r"\1/%i"),
     (r"(StateDirectory=vtserve-\w+)", r"\1/%i"),
     (r"--port 8080", "--port ${PORT}"),
     (r"http://127\.0\.0\.1:8080", "http://127.0.0.1:${PORT}"),

@@ -8,14 +8,17 @@ import { texts } from "./texts.js";
 const FIXED = { layer: texts.layer, minzoom: texts.firstZoom, maxzoom: texts.lastZoom, geometry: texts.shape };
 
 /** The parts of a feature: its members, and each tag by its name behind a colon. */
-function partsOf(feature) {
+export function partsOf(feature) {
     const fixed = Object.keys(FIXED).map(key => [key, feature?.[key]]);
     const tags = Object.entries(feature?.tags ?? {}).map(([name, value]) => [`:${name}`, value]);
     return new Map([...(feature ? fixed : []), ...tags]);
 }
 
 /** The name that people see of a part. */
-const shownName = part => part.startsWith(":") ? texts.tagNamed(part.slice(1)) : FIXED[part];
+export const shownName = part => part.startsWith(":") ? texts.tagNamed(part.slice(1)) : FIXED[part];
+
+/** A value of a part as people see it. */
+export const shownValue = (part, value) => value === undefined ? "–" : part === "geometry" ? described(value) : String(value);
 
 /** The feature that has these parts. */
 function withParts(parts) {
@@ -44,7 +47,7 @@ export function conflictOf({ was, theirs, mine }, save, leave) {
         const name = shownName(part), values = versions.map(parts => parts.get(part)), [before, now, own] = values.map(value => text(value));
         const isMine = now === before, isOpen = now !== own && !isMine && own !== before;
         isOpen || chosen.set(part, values[isMine ? 2 : 1]);
-        const shown = values.map(value => value === undefined ? "–" : part === "geometry" ? described(value) : String(value));
+        const shown = values.map(value => shownValue(part, value));
         const choice = at => element("input", {
             type: "radio", name, ariaLabel: `${name}, ${heads[at]}: ${shown[at]}`, checked: !isOpen && isMine === (at === 2),
             onchange: () => chosen.set(part, values[at]),

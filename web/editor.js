@@ -29,7 +29,7 @@ export async function nextId(server) {
 export class Editor {
     // The draft, or null: the `feature` (null: it is to be deleted) and its `form`; its `id` (null: not known yet), what it `was` (null:
     // nothing), its `pieces` if it is cut, what was `sent` since then, earlier geometries (`undo`), whether it `isNew`, `isDrawn` just now or
-    // `isSent` just now, and `theirs` in a conflict (null: it was deleted). Its `neighbours`, and whether they come `along`. The corner of its shape
+    // `isSent` just now, whether its shape `isFixed`, and `theirs` in a conflict (null: it was deleted). Its `neighbours`, and whether they come `along`. The corner of its shape
     // that is `chosen`: the one that was touched last.
     draft = null;
 
@@ -52,6 +52,19 @@ export class Editor {
             this.draft = { id: pieces ? id : own, was, pieces, sent: [], feature: deletes ? null : structuredClone(was), undo: [], neighbours };
             deletes ? this.ask() : this.openForm();
         }
+    }
+
+    /** Asks whether a feature is to be what it was once, which is drawn; `now`: what the map has (null: nothing); `told`: an element that says what differs. */
+    putBack(id, now, feature, told) {
+        // A new feature may have been begun meanwhile.
+        if (this.draft) {
+            return;
+        }
+        const neighbours = new Neighbours(this.view, this.server, id);
+        this.draft = { id, was: now, pieces: null, sent: [], feature, undo: [], neighbours, isFixed: true };
+        open(texts.putsBack(feature.layer, id), told, hint(described(feature.geometry)),
+            actions(button(texts.putItBack, () => this.send(feature)), button(texts.cancel, () => this.drop())));
+        this.uncover(feature);
     }
 
     /** Begins to draw a new feature. */
@@ -350,11 +363,11 @@ export class Editor {
 
     /** Draws the shapes of the draft. */
     over(context) {
-        const { feature, pieces, theirs } = this.draft ?? {};
+        const { feature, pieces, theirs, isFixed } = this.draft ?? {};
         const onScreen = ({ geometry }) => chainsOf(geometry).map(chain => ({ ...chain, points: chain.points.map(this.view.toScreen) }));
         theirs && !pieces && drawShape(context, onScreen(theirs), THEIRS, false);
         this.others.forEach(other => drawShape(context, onScreen(other.feature), THEIRS, false));
-        feature && !pieces && drawShape(context, onScreen(feature), MINE, theirs === undefined);
+        feature && !pieces && drawShape(context, onScreen(feature), MINE, theirs === undefined && !isFixed);
         const { list, at } = this.shape && this.draft.chosen || {}, place = list === undefined ? null : listsOf(this.shape)[list]?.points[at];
         place && drawChosen(context, this.view.toScreen(place));
     }

@@ -3,6 +3,7 @@ import { shown } from "./attach.js";
 import { Drop } from "./drop.js";
 import { Editor } from "./editor.js";
 import { Here } from "./here.js";
+import { History } from "./history.js";
 import { Keys } from "./keys.js";
 import { actions, button, byId, close, covered, element, open, table, tell } from "./panel.js";
 import { publishedBox } from "./place.js";
@@ -20,7 +21,7 @@ const BETWEEN_LOOKS = { editor: 4, viewer: 30 };
 // How many of the features that are found are listed.
 const MAX_FOUND = 50;
 const server = new Server(new URL("../", location.href));
-let style, view, editor, drop, keys, here, print, layers;
+let style, view, editor, drop, keys, here, print, history, layers;
 // Why this machine may not edit, as `Server.status` says it, or undefined; whether the first look is over; whether the last one got no answer.
 let refused, isBegun = false, isAway = false;
 // The next look.
@@ -63,7 +64,8 @@ function select(point, isFree = false, isTouched = false) {
 function show(feature) {
     const { whole, ...tags } = feature.tags, parts = [table(Object.entries(tags).map(([name, value]) => [name, shown(value, name, server.base)]))];
     whole === undefined || parts.push(element("p", { className: "hint" }, texts.piece));
-    const edits = refused ? [] : [button(texts.edit, () => editor.begin(feature, false)), button(texts.delete, () => editor.begin(feature, true))];
+    const before = () => history.open(plain(feature.layer), feature.id, whole !== undefined);
+    const edits = refused ? [] : [button(texts.edit, () => editor.begin(feature, false)), button(texts.delete, () => editor.begin(feature, true)), button(texts.history, before)];
     open(`${plain(feature.layer)} ${feature.id}`, ...parts, actions(...edits, button(texts.close, leave)));
 }
 
@@ -95,8 +97,8 @@ async function find(text) {
         const rest = more > 0 ? [element("p", { className: "hint" }, texts.more(more))] : [];
         open(texts.found(found.length), ...rows, ...rest, actions(button(texts.close, leave)));
     } else {
-        const none = text ? texts.nothingHas(text) + (!refused && /^\d+$/.test(text) ? texts.noId : "") : texts.nothingInView;
-        found.length ? goTo(found[0]) : tell(none, true);
+        const isId = !refused && /^\d+$/.test(text), none = text ? texts.nothingHas(text) + (isId ? texts.noId : "") : texts.nothingInView;
+        found.length ? goTo(found[0]) : isId && await history.openLost(text) ? tell(texts.isLost(text)) : tell(none, true);
     }
 }
 
@@ -281,6 +283,7 @@ async function start() {
     here = new Here(view);
     print = new Print(view, server, style);
     editor = new Editor(view, server, () => layers, showEdit);
+    history = new History(server, editor, leave);
     drop = new Drop(view, server, () => layers, showEdit);
     keys = new Keys(view, editor, select);
     Object.assign(byId("credit"), { textContent: style.backdrop?.credit ?? "", hidden: !style.backdrop?.credit });

@@ -56,6 +56,15 @@ const EN = {
         points: count => some(count, "point", "points"), lines: count => some(count, "line", "lines"), polygons: count => some(count, "area", "areas"),
     },
 
+    history: "History", historyOf: (layer, id) => `History of ${layer} ${id}`, noHistory: "no history is kept here, or its gateway doesn't run",
+    wasMade: "new", wasChanged: "changed", wasDeleted: "deleted", wasPut: "put",
+    byWhom: (when, who, edit) => `${when}, by ${who}, edit ${edit}`, nobodyKnown: "somebody", between: (from, to) => `between ${from} and ${to}`,
+    putBackBefore: "Put back what was before", putBefore: when => `before ${when}`, putsBack: (layer, id) => `Put ${layer} ${id} back?`, putItBack: "Put it back",
+    isSo: "it is like that now", isLost: id => `${id} isn't on the map any more`, noChanges: "nothing has been changed since the log of edits began",
+    moreChanges: "older changes: vtmap log", cutHistory: "The import cut it into pieces: vtmap undo takes its changes back.",
+    missedEdits: (first, last, when) => `edits ${first} to ${last} are missing in the log (${when})`,
+
+
     layer: "layer", firstZoom: "first zoom", lastZoom: "last zoom", shape: "shape", tag: "tag", value: "value", kindOfValue: "kind of value",
     tagNamed: name => `tag ${name}`, addTag: "Add a tag", removeTag: name => `Remove the tag ${name}`,
     addFile: "Photo or file …", openFile: name => `open ${name}`, noPicture: "the picture isn't there, or isn't for you to see",
@@ -148,6 +157,16 @@ const DE = {
     count: {
         points: count => some(count, "Punkt", "Punkte"), lines: count => some(count, "Linie", "Linien"), polygons: count => some(count, "Fläche", "Flächen"),
     },
+
+    history: "Verlauf", historyOf: (layer, id) => `Verlauf von ${layer} ${id}`, noHistory: "hier wird kein Verlauf geführt, oder sein Gateway läuft nicht",
+    wasMade: "neu", wasChanged: "geändert", wasDeleted: "gelöscht", wasPut: "gesetzt",
+    byWhom: (when, who, edit) => `${when}, von ${who}, Änderung ${edit}`, nobodyKnown: "jemandem", between: (from, to) => `zwischen ${from} und ${to}`,
+    putBackBefore: "Zurück auf den Stand davor", putBefore: when => `vor ${when}`, putsBack: (layer, id) => `${layer} ${id} zurücksetzen?`,
+    putItBack: "Zurücksetzen", isSo: "so ist es jetzt schon", isLost: id => `${id} ist nicht mehr auf der Karte`,
+    noChanges: "nichts wurde geändert, seit das Protokoll der Änderungen begann", moreChanges: "ältere Änderungen: vtmap log",
+    cutHistory: "Der Import hat es in Stücke geteilt: vtmap undo nimmt seine Änderungen zurück.",
+    missedEdits: (first, last, when) => `die Änderungen ${first} bis ${last} fehlen im Protokoll (${when})`,
+
 
     layer: "Ebene", firstZoom: "erste Zoomstufe", lastZoom: "letzte Zoomstufe", shape: "Form", tag: "Merkmal", value: "Wert",
     kindOfValue: "Art des Werts", tagNamed: name => `Merkmal ${name}`, addTag: "Merkmal hinzufügen", removeTag: name => `Das Merkmal ${name} entfernen`,

@@ -35,6 +35,7 @@ from clients.foreign import foreign  # noqa: E402
 from clients.front import in_front  # noqa: E402
 from clients.full_disks import disk_full  # noqa: E402
 from clients.hang_ups import hang_ups, shrinking  # noqa: E402
+from clients.histories import history  # noqa: E402
 from clients.imports import imports  # noqa: E402
 from clients.joins import joins  # noqa: E402
 from clients.killed_servers import kills  # noqa: E402
@@ -46,6 +47,7 @@ from clients.operation import operation  # noqa: E402
 from clients.outsiders import outsiders  # noqa: E402
 from clients.page_files import page_files  # noqa: E402
 from clients.page_hands import page_hands  # noqa: E402
+from clients.page_history import page_history  # noqa: E402
 from clients.page_print import page_print  # noqa: E402
 from clients.page_tools import page_tools  # noqa: E402
 from clients.pages import page  # noqa: E402
@@ -98,6 +100,7 @@ def main():
         "page-tools": page_tools,
         "page-hands": page_hands,
         "page-files": page_files,
+        "page-history": page_history,
         "page-print": page_print,
         "page-photos": page_photos,
         "desktop": desktop,
@@ -143,6 +146,7 @@ def main():
         "replicas": replicas,
         "trail": trail,
         "past": past,
+        "history": history,
         "disk-full": disk_full,
         "kills": kills,
         "nginx": in_front,

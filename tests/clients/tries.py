@@ -22,6 +22,8 @@ INSERT = """<wfs:Transaction xmlns:wfs="http://www.opengis.net/wfs" xmlns:gml="h
 <wfs:Insert><v:p.points><v:geom><gml:Point srsName="urn:ogc:def:crs:EPSG::3857"><gml:pos>9 9</gml:pos></gml:Point></v:geom></v:p.points></wfs:Insert>
 </wfs:Transaction>"""
 XML = "Content-Type: text/xml"
+# The processes of a try, by a word of their commands.
+NAMES = {"wfs": "wfs", "wmts": "wmts", "serve": "map", "follow": "log"}
 # What both fronts are asked, in this order: curl's words, the path, the body. OWN stands for the front's own origin.
 ASKED = [
     ((), "/", None),
@@ -104,9 +106,7 @@ class Tried:
             if state_of(number)[1:2] == [str(self.child.pid)]:
                 with open(f"/proc/{number}/cmdline", "rb") as file:
                     words = file.read().decode().split("\0")
-                found[
-                    next((name for name in ("wfs", "wmts") if name in words), "map" if "serve" in words else words[0])
-                ] = int(number)
+                found[next((NAMES[word] for word in words if word in NAMES), words[0])] = int(number)
         return found
 
     def end(self, by=signal.SIGINT):
@@ -165,6 +165,7 @@ def tries(cases: Cases, folder: str) -> None:
     if has_gdal(cases):
         town(cases, folder)
     fronts(cases, folder)
+    remembered(cases, folder)
     endings(cases, folder)
 
 
@@ -296,10 +297,20 @@ def fronts(cases: Cases, folder: str) -> None:
         )
 
 
+def remembered(cases: Cases, folder: str) -> None:
+    """The history of a feature, for the page."""
+    with Tried(folder, "history", "--empty", "--no-browser", "--program", PROGRAM) as tried:
+        curl(tried.url + "/features/7", "-X", "PUT", "-H", JSON, body=FEATURE)
+        end, found = time.monotonic() + 60, []
+        while not found and time.monotonic() < end:
+            found = json.loads(curl(tried.url + "/wfs/history/7")[2])["changes"]
+        cases.show("try: the history of a feature", [(row["edit"], row["was"]) for row in found], [(1, None)])
+
+
 def endings(cases: Cases, folder: str) -> None:
     """However it ends, nothing is left running."""
     words = ["--empty", "--no-browser", "--program", PROGRAM]
-    started = ["map", "wfs"] + ["wmts"] * has_cairo(cases)
+    started = ["log", "map", "wfs"] + ["wmts"] * has_cairo(cases)
     for by, status in ((signal.SIGINT, 0), (signal.SIGTERM, 0), (signal.SIGHUP, 0), (signal.SIGKILL, -9)):
         with Tried(folder, f"ends-{by}", *words) as tried:
             numbers = tried.children()

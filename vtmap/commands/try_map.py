@@ -224,8 +224,10 @@ class Try:
             raise Refused(f"port {self.words.port} of {HERE} can't be opened: {fault.strerror}") from fault
         threading.Thread(target=self.front.serve_forever, daemon=True).start()
         link = self.fill() if self.town else self.address() + "/pages/"
+        log = self.path("edits.jsonl")
+        self.children.start("log", *command_of(["follow", "--log", log, "--url", f"http://{HERE}:{port}"]))
         state = ["--state", self.path("wfs.state"), "--log", self.path("edits.log"), "--behind-nginx", "--schema", self.path("schema.json")]
-        state += ["--files", self.path("files")]
+        state += ["--files", self.path("files"), "--history", log]
         line, environment = command_of(["wfs", "--port", f"{gateway}", *state, "--url", f"http://{HERE}:{port}"])
         self.children.start("wfs", line, environment)
         if not self.children.waits_for("wfs", "/wfs"):

@@ -11,6 +11,7 @@ from ..files.attachments import Attachments
 from ..files.checkout_file import KINDS
 from ..files.map_schema import SchemaFile
 from ..files.save_log import SaveLog
+from ..gateway.history import History
 from ..gateway.listener import listener
 from ..gateway.live_map import LiveMap
 from ..gateway.ogc_api import OgcApi
@@ -38,6 +39,9 @@ saves from nginx; without it that is 127.0.0.1. --schema FILE names the layers, 
 to fit them, and `vtmap schema add` adds to it. --files FOLDER takes photos and files (JPEG, PNG, GIF, WebP, PDF, up to 20 MiB) at /files/,
 which tags name as files/HASH.jpg; `vtmap files` lists those that no feature names.
 
+--history FILE names what `vtmap follow --log` writes: by it /wfs/history/ID tells the page what has become of a feature, with the names of who edited
+it by the logs of --nginx and --log.
+
 The server needs --admin. Large shapes are cut, for which GDAL's Python module is needed. It ends with 0 at SIGTERM, once a save that is under way
 is made. If systemd waits for it (WatchdogSec), it asks itself again and again whether it answers, and says so."""}
 FORMS = {"text": "TEXT", "integer": "INTEGER", "boolean": "BOOLEAN"}
@@ -50,6 +54,9 @@ def options(parser, _):
     parser.add_argument("--log", metavar="FILE", help="append who has saved what to this file, as `vtmap log --nginx` reads it")
     parser.add_argument("--schema", metavar="FILE", help="the layers and fields that the map is to have (docs/FORMATS.md); read anew when it changes")
     parser.add_argument("--files", metavar="FOLDER", help="keep photos and files of features in this folder")
+    parser.add_argument("--history", metavar="FILE", help="the log of edits of `vtmap follow --log`, for the history of a feature in the page")
+    parser.add_argument("--nginx", metavar="FILE", action="append", default=[], help="nginx's log of edits, for who is in that history; may be given "
+                        "several times")
     parser.add_argument("--layer", type=layer_of, action="append", default=[], metavar="LAYER:KIND[:TAG=FORM,..]",
                         help="a layer that the map doesn't have yet, or further tags of one: KIND is points, lines or areas, FORM text, integer or boolean; "
                         "may be repeated")
@@ -94,7 +101,8 @@ def work(words):
     wfs = Wfs(live, sessions, Saves(live, log, words.log))
     api = OgcApi(live, wfs.look, Systems(words.crs))
     files = Attachments(words.files) if words.files else None
-    server = listener(words.port, wfs, api, files=files, is_behind_nginx=words.behind_nginx, is_public=words.cors)
+    history = History(words.history, [*words.nginx, *([words.log] if words.log else [])])
+    server = listener(words.port, wfs, api, files=files, history=history, is_behind_nginx=words.behind_nginx, is_public=words.cors)
     begin(wfs)
     signal.signal(signal.SIGTERM, lambda *_: sys.exit(0))
     alive.tell(words.port)

@@ -21,6 +21,8 @@ from .ogc_api import Unknown
 from .ogc_texts import JSON
 
 WFS, OGC = "/wfs", "/ogc"
+# Where the history of a feature is, behind what nginx lets only those ask who edit: it has the names of people.
+HISTORY = re.compile("/wfs/history/([0-9]{1,19})")
 # Where the schema is read, and where it gets more.
 SCHEMAS, SCHEMA = ("/wfs/schema.json", "/ogc/schema.json"), "/wfs/schema.json"
 # The methods of what is only read.
@@ -41,13 +43,13 @@ IDLE, PAUSE, SLOWEST, LINGER = 300, 30, 64 * 2 ** 10, 2
 
 
 class Handler(BaseHTTPRequestHandler):
-    """One connection. `wfs` and `ogc` answer, `files` are kept. `is_behind_nginx`: whether nginx says who sends a request. `is_public`: whether pages of
-    other origins may read."""
+    """One connection. `wfs`, `ogc` and `history` answer, `files` are kept. `is_behind_nginx`: whether nginx says who sends a request. `is_public`: whether
+    pages of other origins may read."""
 
     protocol_version = "HTTP/1.1"
     disable_nagle_algorithm = True
     timeout = IDLE
-    wfs = ogc = files = None
+    wfs = ogc = history = files = None
     is_behind_nginx = is_public = False
 
     def log_message(self, *words):
@@ -88,6 +90,9 @@ class Handler(BaseHTTPRequestHandler):
         given = dict(urllib.parse.parse_qsl(query, keep_blank_values=True))
         if path in SCHEMAS:
             self.answer_schema()
+            return
+        if HISTORY.fullmatch(path):
+            self.answer_history(int(HISTORY.fullmatch(path)[1]))
             return
         if path.startswith(FILES):
             file_paths.answer(self, self.files, path, SAFETY)
@@ -149,6 +154,19 @@ class Handler(BaseHTTPRequestHandler):
         """Makes a Transaction, or answers a request by XML that reads."""
         body = body if self.files is None else file_paths.by_paths(body, self.files)
         self.answer_wfs(wfs_texts.V1, "OperationProcessingFailed", lambda: self.wfs.posted(session, body, self.address(WFS), self.person(), is_meant))
+
+    def answer_history(self, number):
+        """Sends what has become of a feature."""
+        status, kind = 200, JSON
+        try:
+            found = self.history.of(number)
+            if found is None:
+                status, kind, text = 404, TEXT, "no log of edits is kept here"
+            else:
+                text = json.dumps(found, ensure_ascii=False, separators=(",", ":"))
+        except OSError as fault:
+            status, kind, text = 500, TEXT, f"the log of edits can't be read: {fault.strerror}"
+        self.reply(status, text.encode(), kind)
 
     # ---- the schema
 
