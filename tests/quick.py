@@ -69,6 +69,7 @@ PARTS = [
     client("trail"),
     client("past"),
     client("history"),
+    client("serve-at"),
     client("short-files"),
     client("batches"),
     page_of("docs/DEPLOYING.md"),

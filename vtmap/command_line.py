@@ -36,6 +36,7 @@ COMMANDS = {
     "log": ("log", "tells who changed what, and when, by that log"),
     "undo": ("undo", "takes edits back: one, several, or a whole import"),
     "at": ("at", "writes the map of an earlier time into a file"),
+    "serve-at": ("serve_at", "shows the maps of earlier times in the page"),
     "diff": ("diff", "tells what two times of the map differ in: by feature, layer and person, as GeoJSON too"),
     "draw": ("draw", "draws a part of the map into a PNG file"),
 }

@@ -3,7 +3,7 @@ import { shown } from "./attach.js";
 import { Drop } from "./drop.js";
 import { Editor } from "./editor.js";
 import { Here } from "./here.js";
-import { History } from "./history.js";
+import { History, timeOf } from "./history.js";
 import { Keys } from "./keys.js";
 import { actions, button, byId, close, covered, element, open, table, tell } from "./panel.js";
 import { publishedBox } from "./place.js";
@@ -20,7 +20,10 @@ import { WORLD, bounds, distance, isInside } from "./world.js";
 const BETWEEN_LOOKS = { editor: 4, viewer: 30 };
 // How many of the features that are found are listed.
 const MAX_FOUND = 50;
-const server = new Server(new URL("../", location.href));
+// The time whose map is shown, as the address of the page says it, and what is known of that map; of the map of now null.
+const at = new URL(location.href).searchParams.get("at");
+const BASE = new URL("../", location.href);
+let server = new Server(BASE), past = null;
 let style, view, editor, drop, keys, here, print, history, layers;
 // Why this machine may not edit, as `Server.status` says it, or undefined; whether the first look is over; whether the last one got no answer.
 let refused, isBegun = false, isAway = false;
@@ -62,7 +65,7 @@ function select(point, isFree = false, isTouched = false) {
 
 /** Shows a feature as a tile has it. */
 function show(feature) {
-    const { whole, ...tags } = feature.tags, parts = [table(Object.entries(tags).map(([name, value]) => [name, shown(value, name, server.base)]))];
+    const { whole, ...tags } = feature.tags, parts = [table(Object.entries(tags).map(([name, value]) => [name, shown(value, name, BASE)]))];
     whole === undefined || parts.push(element("p", { className: "hint" }, texts.piece));
     const before = () => history.open(plain(feature.layer), feature.id, whole !== undefined);
     const edits = refused ? [] : [button(texts.edit, () => editor.begin(feature, false)), button(texts.delete, () => editor.begin(feature, true)), button(texts.history, before)];
@@ -91,7 +94,7 @@ async function find(text) {
     if (editor.draft || drop.file) {
         throw new Error(texts.finishFirst);
     }
-    const found = await search(refused ? null : server, view, text), more = found.length - MAX_FOUND;
+    const found = await search(refused && !past ? null : server, view, text), more = found.length - MAX_FOUND;
     if (found.length > 1) {
         const rows = found.slice(0, MAX_FOUND).map(feature => Object.assign(button(titleOf(feature, text), () => goTo(feature)), { className: "found" }));
         const rest = more > 0 ? [element("p", { className: "hint" }, texts.more(more))] : [];
@@ -131,7 +134,7 @@ async function showEdit(edit) {
 
 /** Says what a look has seen. */
 function tellSeen({ features, edits }) {
-    tell(refused === 401 ? texts.logInToEdit : refused ? texts.mayNotEdit : texts.seen(features, edits));
+    tell(past ? texts.isPast(past.edit) : refused === 401 ? texts.logInToEdit : refused ? texts.mayNotEdit : texts.seen(features, edits));
 }
 
 /** Looks whether somebody else has edited the map, and shows it. Who may not edit isn't told of edits, and looks at the tags of tiles. */
@@ -252,7 +255,7 @@ async function logIn() {
 /** Looks, and again after a while. */
 async function watch() {
     try {
-        await (!isBegun ? arrive() : document.hidden || look());
+        await (!isBegun ? arrive() : document.hidden || past || look());
     } catch (fault) {
         isAway = true;
         tell(isBegun ? fault.message : texts.asksAgain(fault.message), true);
@@ -265,8 +268,32 @@ function lookLater() {
     next = setTimeout(watch, BETWEEN_LOOKS[isBegun && refused ? "viewer" : "editor"] * 1000);
 }
 
+/** Finds the map of an earlier time, which is only looked at, and says in the page that it isn't that of now. Nothing works until it is there. */
+async function goBack() {
+    const nav = document.querySelector("nav"), now = element("a", { href: location.pathname + location.hash }, texts.goToNow), row = byId("past");
+    // What is in view stays in view.
+    now.onclick = () => now.href = location.pathname + location.hash;
+    nav.inert = true;
+    row.replaceChildren(texts.isMade, " ", now);
+    row.hidden = false;
+    try {
+        past = await server.value(`at/${encodeURIComponent(at)}/about`);
+    } catch (fault) {
+        row.replaceChildren(now);
+        throw fault.status === 502 ? new Error(texts.noPast) : fault;
+    }
+    if (!past) {
+        row.replaceChildren(now);
+        throw new Error(texts.noPast);
+    }
+    server = new Server(new URL(`at/${past.edit}/`, server.base));
+    row.replaceChildren(past.time ? texts.mapOf(timeOf(past.time)) : texts.mapAfter(past.edit), " ", now);
+    nav.inert = false;
+}
+
 async function start() {
     translate();
+    at && await goBack();
     style = new Style(await (await fetch("style.json")).json());
     view = new View(byId("map"), server, style, {
         select, grab: (point, isTouched) => editor.grab(point, isTouched),

@@ -64,6 +64,8 @@ const EN = {
     moreChanges: "older changes: vtmap log", cutHistory: "The import cut it into pieces: vtmap undo takes its changes back.",
     missedEdits: (first, last, when) => `edits ${first} to ${last} are missing in the log (${when})`,
 
+    isMade: "The map of that time is made …", isPast: edit => `view only: the map after edit ${edit}`, mapOf: when => `The map of ${when}.`,
+    mapAfter: edit => `The map after edit ${edit}.`, goToNow: "Go to the map of now", noPast: "no maps of earlier times are kept here (vtmap serve-at)",
 
     layer: "layer", firstZoom: "first zoom", lastZoom: "last zoom", shape: "shape", tag: "tag", value: "value", kindOfValue: "kind of value",
     tagNamed: name => `tag ${name}`, addTag: "Add a tag", removeTag: name => `Remove the tag ${name}`,
@@ -167,6 +169,8 @@ const DE = {
     cutHistory: "Der Import hat es in Stücke geteilt: vtmap undo nimmt seine Änderungen zurück.",
     missedEdits: (first, last, when) => `die Änderungen ${first} bis ${last} fehlen im Protokoll (${when})`,
 
+    isMade: "Die Karte von damals wird angelegt …", isPast: edit => `nur ansehen: die Karte nach Änderung ${edit}`, mapOf: when => `Die Karte von ${when}.`,
+    mapAfter: edit => `Die Karte nach Änderung ${edit}.`, goToNow: "Zur Karte von jetzt", noPast: "Karten früherer Zeiten gibt es hier nicht (vtmap serve-at)",
 
     layer: "Ebene", firstZoom: "erste Zoomstufe", lastZoom: "letzte Zoomstufe", shape: "Form", tag: "Merkmal", value: "Wert",
     kindOfValue: "Art des Werts", tagNamed: name => `Merkmal ${name}`, addTag: "Merkmal hinzufügen", removeTag: name => `Das Merkmal ${name} entfernen`,

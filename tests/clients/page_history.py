@@ -11,6 +11,8 @@ from .gateways import Gateway
 from .page_hands import Hands
 from .page_tools import FEATURES, OPENED
 from .pages import PAGE
+from .past import History
+from .past_maps import ServeAt
 from .stand import Cases, Nginx, Server, curl, feature, free_port, status_of
 from .standby import follow, waited
 
@@ -193,6 +195,72 @@ class Histories(Hands):
         self.show("the browser complains of nothing on a narrow screen", told, [])
 
 
+class Past(Histories):
+    """A person with the page of an earlier time."""
+
+    def all(self, nginx):
+        edits = self.edits_and_features()[0]
+        self.one = self.opened(f"?at={len(FEATURES)}{OPENED}")
+        self.show(
+            "the page says of which time it is",
+            self.one.text("#past"),
+            f"The map after edit {len(FEATURES)}. Go to the map of now",
+        )
+        self.show(
+            "and the foot that it is only looked at",
+            self.one.text("#told"),
+            f"view only: the map after edit {len(FEATURES)}",
+        )
+        self.show("the map is that of then", self.find("garden"), "parcel 1")
+        self.show(
+            "with the tags of then",
+            self.one.value("[...document.querySelectorAll('#panel td')].map(each => each.innerText)"),
+            ["Smith", "garden"],
+        )
+        self.show(
+            "nothing can be edited",
+            self.one.value("[...document.querySelectorAll('#panel button')].map(each => each.innerText)"),
+            ["Close"],
+        )
+        self.show("a feature is found by its number", self.find("12"), "valve 12")
+        self.seen("an earlier map")
+        self.keep(self.one, f"page-at-{self.browser.size[0]}.png")
+        self.one.value("document.querySelector('#past a').focus()")
+        self.one.key("Enter")
+        self.one.wait("!location.search && document.getElementById('told')?.textContent.includes('features')")
+        self.show(
+            "the link leads to the map of now, where it was",
+            self.one.value("[location.hash, document.getElementById('past').hidden]"),
+            ["#17.00/54.500000/7.500000", True],
+        )
+        self.show("nothing was changed", self.edits_and_features()[0], edits)
+        today = self.opened(f"?at=today{OPENED}")
+        today.wait("document.getElementById('told').className === 'fault'")
+        self.show("with a way to the map of now", today.text("#past"), "Go to the map of now")
+        self.show(
+            "a time without a map says why",
+            today.text("#told").startswith("400 the log begins with edit 1, seen at "),
+            True,
+        )
+
+    def opened(self, place):
+        """A page that has drawn its tiles, once the map is made."""
+        made = self.browser.open(f"{self.front.url}/pages/{place}")
+        made.wait("document.getElementById('told').textContent", 60)
+        self.drawn(made)
+        return made
+
+    def without(self):
+        """Where no earlier maps are kept."""
+        made = self.browser.open(f"{self.front.url}/pages/?at=2026-11-24{OPENED}")
+        made.wait("document.getElementById('told').className === 'fault'")
+        self.show(
+            "without vtmap serve-at the page says so",
+            made.text("#told"),
+            "no maps of earlier times are kept here (vtmap serve-at)",
+        )
+
+
 class Lookers(Histories):
     """Who may only look."""
 
@@ -220,9 +288,11 @@ def page_history(cases: Cases, folder: str) -> None:
         return
     folder = os.path.join(folder, "page-history")
     os.mkdir(folder)
-    port, log = free_port(), os.path.join(folder, "edits.jsonl")
+    port, at, log = free_port(), free_port(), os.path.join(folder, "edits.jsonl")
     with Server(folder, "parcels", sectors=16384, more=["--admin", "--etags"]) as server:
-        with Nginx(nginx, folder, server, [("127.0.0.1:8090", f"127.0.0.1:{port}")]) as front:
+        with Nginx(
+            nginx, folder, server, [("127.0.0.1:8090", f"127.0.0.1:{port}"), ("127.0.0.1:8092", f"127.0.0.1:{at}")]
+        ) as front:
             words = ["--history", log, "--nginx", os.path.join(front.folder, "edits.log"), "--behind-nginx"]
             follower = follow(server.url, "--log", log, "--every", "0.05")
             follower.stdout.readline()
@@ -234,6 +304,12 @@ def page_history(cases: Cases, folder: str) -> None:
                         one = Histories(cases, browser, server, front, folder)
                         one.log = log
                         one.all(nginx) if name == "wide" else one.phone()
+                        then = Past(cases, browser, server, front, folder)
+                        name == "wide" and then.without()
+                        served = ServeAt(History(folder, server), port=at)
+                        then.least = one.least
+                        then.all(nginx)
+                        served.end()
             follower.kill()
             follower.communicate()
         shutil.rmtree(front.folder)

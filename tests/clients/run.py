@@ -52,6 +52,7 @@ from clients.page_print import page_print  # noqa: E402
 from clients.page_tools import page_tools  # noqa: E402
 from clients.pages import page  # noqa: E402
 from clients.past import past  # noqa: E402
+from clients.past_maps import past_maps  # noqa: E402
 from clients.pictures import by_qgis, wmts  # noqa: E402
 from clients.refusals import refused_features, refused_requests  # noqa: E402
 from clients.replicas import replicas  # noqa: E402
@@ -147,6 +148,7 @@ def main():
         "trail": trail,
         "past": past,
         "history": history,
+        "serve-at": past_maps,
         "disk-full": disk_full,
         "kills": kills,
         "nginx": in_front,

@@ -36,6 +36,7 @@ NAMES = [
     "log",
     "undo",
     "at",
+    "serve-at",
     "diff",
     "draw",
 ]

@@ -27,6 +27,7 @@ EXPOSURE = {
     "vtserve-standby.service": 1.5,
     "vtserve-wfs.service": 1.5,
     "vtserve-wmts.service": 1.5,
+    "vtserve-at.service": 1.5,
     "vtserve-replicas.service": 1.5,
     "vtserve-replica@.service": 1.5,
 }
