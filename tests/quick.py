@@ -70,6 +70,7 @@ PARTS = [
     client("past"),
     client("history"),
     client("serve-at"),
+    client("run"),
     client("short-files"),
     client("batches"),
     page_of("docs/DEPLOYING.md"),

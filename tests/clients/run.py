@@ -69,6 +69,7 @@ from clients.standby import long_follow, standby  # noqa: E402
 from clients.steps import steps  # noqa: E402
 from clients.surveys import gdal  # noqa: E402
 from clients.takeover import takeover  # noqa: E402
+from clients.tellings import tellings  # noqa: E402
 from clients.three_ways import three_ways  # noqa: E402
 from clients.toolbox import toolbox  # noqa: E402
 from clients.trail import trail  # noqa: E402
@@ -149,6 +150,7 @@ def main():
         "past": past,
         "history": history,
         "serve-at": past_maps,
+        "run": tellings,
         "disk-full": disk_full,
         "kills": kills,
         "nginx": in_front,

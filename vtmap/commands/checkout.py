@@ -42,7 +42,7 @@ def box_of(text):
 
 
 class Choice:
-    """Which features are checked out."""
+    """Which features are chosen, by their layers and a box."""
 
     def __init__(self, layers, box):
         self.layers, self.box = layers, box
@@ -51,12 +51,15 @@ class Choice:
             self.corners = world((west, north)), world((east, south))
 
     def has(self, whole):
-        if self.layers and whole.feature["layer"] not in self.layers:
+        return self.meets(whole.feature)
+
+    def meets(self, feature):
+        if self.layers and feature["layer"] not in self.layers:
             return False
         if not self.box:
             return True
         (west, north), (east, south) = self.corners
-        xs, ys = zip(*points_of(whole.feature["geometry"]))
+        xs, ys = zip(*points_of(feature["geometry"]))
         return min(xs) <= east and max(xs) >= west and min(ys) <= south and max(ys) >= north
 
 

@@ -11,11 +11,14 @@ from ..client.feed import THEN, Leader, LeftBehind, Standby
 from ..ending import regular
 from ..faults import Fault, NoAnswer, Stopped
 from ..files.edit_log import EditLog
+from .checkout import Choice, box_of
+from .telling import Teller
 
 ABOUT = {"follow": """Follows the edits of a running `vtserve serve --admin`: into standbys, each a second vtserve, into a log, or both.
 
     vtmap follow --to http://127.0.0.1:8090 --publish
     vtmap follow --log edits.jsonl
+    vtmap follow --log edits.jsonl --run "sh webhook.sh" --layer road --bbox 7.4,54.4,7.6,54.6
 
 A standby begins as a copy of the server's disk, and nobody else edits it:
 
@@ -30,6 +33,10 @@ but those that later edits change: a server that was put back from a copy is ano
 --log FILE appends a line of JSON for each edit, `{"time":..,"edit":7,"changes":[{"put":9,"feature":{..},"was":{..}}]}`, with the time when the
 edit was seen and what each feature was before: `vtmap log` reads it, and `vtmap undo` takes edits back by it. For that the features of the map
 are kept in FILE.map. A new log begins with the next edit. FILE may be renamed meanwhile, as logrotate does: then a new one begins.
+
+--run COMMAND has the shell run a command for what the log gets: it reads a line of JSON for each edit on its standard input, as the log has it, with
+those changes of features that are, or were, in the box of --bbox and in a --layer. If it doesn't end with 0, it is run again with the same edits, after
+ten seconds at first: so an edit may be told twice, and none is left out. FILE.run has the number of the last one; the first one is the next one.
 
 A publication of the server takes the edits up to its beginning out of the list. `vtmap publish --pause 5` gives who follows the time to read
 them before. Whoever hasn't is left behind: a log gets a line `{"time":..,"missed":[8,12]}` and goes on; a standby has to begin anew from a copy,
@@ -146,21 +153,27 @@ class Follower:
 def work(words):
     """Follows into each standby and into the log, each by itself."""
     sinks = [Standby(url.rstrip("/"), words.publish) for url in words.to] + ([EditLog(regular(words.log))] if words.log else [])
+    teller = Teller(words.log, words.run, Choice(words.layer, words.bbox), say) if words.run else None
     followers = [Follower(words, sink) for sink in sinks]
     threads = [threading.Thread(target=follower.run, daemon=True) for follower in followers]
     for thread in threads:
         thread.start()
+    if teller and not words.once:
+        threading.Thread(target=teller.run, args=[words.every], daemon=True).start()
     for thread in threads:
         # On Windows nothing interrupts a wait without an end.
         while thread.is_alive():
             thread.join(1)
-    return max(follower.status for follower in followers)
+    return max([follower.status for follower in followers] + ([teller.end()] if teller and words.once else []))
 
 
 def options(parser, _):
     """The words of the command."""
     parser.add_argument("--to", metavar="URL", action="append", default=[], help="a standby; may be given several times")
     parser.add_argument("--log", metavar="FILE", help="append each edit to this file")
+    parser.add_argument("--run", metavar="COMMAND", help="run this with the edits that --log gets, a line of JSON each on its standard input")
+    parser.add_argument("--bbox", type=box_of, help="--run: only what is, or was, in this box: WEST,SOUTH,EAST,NORTH in degrees")
+    parser.add_argument("--layer", action="append", help="--run: only this layer; may be given several times")
     parser.add_argument("--publish", action="store_true", help="publish a standby when its journal is full, and after the server")
     parser.add_argument("--anew", metavar="COMMAND", help="what begins a standby anew from a copy; its address is $STANDBY")
     parser.add_argument("--every", type=float, default=0.1, metavar="SECONDS", help="how often to ask for new edits (0.1)")
@@ -169,4 +182,8 @@ def options(parser, _):
 
 def fault_of(words):
     """What is wrong with the command line."""
+    if words.run and not words.log:
+        return "--run needs --log"
+    if (words.bbox or words.layer) and not words.run:
+        return "--bbox and --layer are for --run"
     return None if words.to or words.log else "one of --to and --log is needed"
