@@ -1,3 +1,4 @@
 pub mod Begun
 pub mod Beside
+pub mod Inside
 pub mod Moments

@@ -20,6 +20,9 @@ use Rattle.tile_service.specs.Runs.{TakesAll, TakesRun}
 use Rattle.tile_service.specs.Service.{ServiceView, status_of}
 use Rattle.tile_service.specs.Tags.{TellsNumber}
 use Rattle.tile_service.proofs.Tiles.Tags.{knows_all, knows_on, same_layers}
+use Rattle.begin_law.specs.Inside.{IsInside}
+use Rattle.begin_law.specs.Moments.{TakesBetweenReads}
+use Rattle.begin_law.proofs.PortNumbers.{knows_run, same_inside}
 use Rattle.map_replies.specs.Conditions.{AskView, ask_of, needed, refuses}
 use Rattle.map_replies.specs.Meanings.{MeansMethod, MeansTagged, UnlessRefused, Replies, asked_for, DiskFailed}
 use Rattle.map_replies.specs.Words.{shown_reply, tagged_reply}
@@ -100,3 +103,20 @@ module _ {D : Type 0} (sectors : D → ℕ) (honest : D → Type 0) (history : D
       same_layers first second z x y old.0 old.2
       (knows_on first between second (knows_all sectors honest history first replies.0 between replies.2) takes.knows)
       (subst (λ (n : ℕ). TellsNumber second z x y n) same new.2).is
+
+  pub equal_inside : (access : Access) (start : ℕ) (first between second after : ServiceView D) (run : List Happening) (one other : RequestView)
+      (reply again : ReplyView) (tag : Tag) (z x y : ℕ) (f g : TileFormat)
+      → Replies sectors honest history faults access (Some start) first one reply between → TakesBetweenReads sectors honest history between run second
+      → Replies sectors honest history faults access (Some start) second other again after
+      → asked_for access one ≡ asked_tile z x y f → asked_for access other ≡ asked_tile z x y g → reply.tag ≡ Some tag → again.tag ≡ Some tag
+      → (inner_z inner_x inner_y : ℕ) → IsInside z x y inner_z inner_x inner_y
+      → layers second.features inner_z inner_x inner_y ≡ layers first.features inner_z inner_x inner_y
+  equal_inside access start first between second after run one other reply again tag z x y f g replies takes more asked other_asked has other_has
+      inner_z inner_x inner_y inside =
+      let then = told access start z x y f first between one reply tag replies asked has in
+      let now = told access start z x y g second after other again tag more other_asked other_has in
+      let same : now.0 ≡ then.0 = ap (λ (t : WeakTag). t.number) (same_weak _ _ (sym now.1 ∙ then.1)) in
+      same_inside first second z x y then.0 inner_z inner_x inner_y then.2
+      (knows_on first between second (knows_all sectors honest history first replies.0 between replies.2)
+      (knows_run sectors honest history between second run takes))
+      (subst (λ (n : ℕ). TellsNumber second z x y n) same now.2).is inside

@@ -32,4 +32,4 @@ pub use editing::edits_meet_their_conditions;
 pub use preparing::PreparingReplies;
 pub use service::{MapReplies, Settings, serve_map, serve_map_turns};
 pub use standing_by::{feed_tells_the_edits, standby_has_first_edits};
-pub use tags::equal_tags_are_equal_tiles;
+pub use tags::{equal_tags_are_equal_tiles, equal_tags_are_equal_tiles_inside};

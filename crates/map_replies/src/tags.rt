@@ -1,4 +1,6 @@
 //! Tags of tiles.
+ghost use Rattle.begin_law.specs.Inside.{IsInside};
+ghost use Rattle.begin_law.specs.Moments.{TakesBetweenReads};
 ghost use Rattle.std.specs.Prelude.{◌≡◌, ℕ, List, Some};
 ghost use Rattle.feature_store.specs.Layers.{layers};
 ghost use Rattle.http_requests.specs.Requests.{RequestView};
@@ -26,4 +28,18 @@ pub fn equal_tags_are_equal_tiles<D: Sectors>()
         → asked_for access one ≡ asked_tile z x y f → asked_for access other ≡ asked_tile z x y g
         → reply.tag ≡ Some tag → again.tag ≡ Some tag
         → layers second.features z x y ≡ layers first.features z x y }
+{}
+
+/// So they do over a port, where downloads were read and a publication was prepared between the calls. Each tile inside of the tile had the same layers
+/// too. So a client that shows many tiles may ask for the tag of one that they lie in.
+pub fn equal_tags_are_equal_tiles_inside<D: Sectors>()
+    ensures { (access : Access) (start : ℕ) (first between second after : ServiceView D) (run : List Happening) (one other : RequestView)
+        (reply again : ReplyView) (tag : Tag) (z x y : ℕ) (f g : TileFormat)
+        → Replies D.sectors D.honest D.history D.faults access (Some start) first one reply between
+        → TakesBetweenReads D.sectors D.honest D.history between run second
+        → Replies D.sectors D.honest D.history D.faults access (Some start) second other again after
+        → asked_for access one ≡ asked_tile z x y f → asked_for access other ≡ asked_tile z x y g
+        → reply.tag ≡ Some tag → again.tag ≡ Some tag
+        → (inner_z inner_x inner_y : ℕ) → IsInside z x y inner_z inner_x inner_y
+        → layers second.features inner_z inner_x inner_y ≡ layers first.features inner_z inner_x inner_y }
 {}
