@@ -539,6 +539,63 @@ def wide_tiles(script):
     listen(script, Peer((0, A + NEAR + FAR + SHOWN), (30, END), answered=[A, NEAR, FAR, SHOWN]), log=logged((1, 4, "closed")), time=30)
 
 
+# ---- metadata that are made by steps
+
+METADATA, METADATA_HEAD, METADATA_POST = (request(method, "/map/metadata") for method in ("GET", "HEAD", "POST"))
+# It gives the first feature a layer and a key of its own.
+MOVED = request("PUT", "/features/1", b'{"layer":"q","minzoom":1,"maxzoom":3,"geometry":{"points":[[0,0]]},"tags":{"k":1}}')
+# The features of the map with so many are read in five steps, and the reply follows the last one.
+READ_IN = 5
+
+
+def beside_metadata(script, asked, others, order):
+    """Metadata that one asks for, and what another one asks for meanwhile, one at each turn."""
+    one, other = Peer((0, asked), (30, END), answered=[asked]), Peer((0, b"".join(others)), (29, END), answered=others)
+    listen(script, one, other, order=order, log=logged((2, len(others), "closed"), (1, 1, "closed")), time=30)
+
+
+def long_metadata(script):
+    script.say("The metadata of a map of many features are made by steps, and others are answered in between. An edit has them begun anew, and is in them.")
+    with_many(script)
+    beside_metadata(script, METADATA, [DONE] * READ_IN, [*[1] * (READ_IN - 1), 0, 1])
+    for asked, edit in ((METADATA, MOVED), (METADATA_HEAD, put(1)), (b"\r\n" + METADATA, MOVED), (request("GET", "/map/metadata?x"), put(1))):
+        script.ask(put(9))
+        beside_metadata(script, asked, [edit, *[DONE] * READ_IN], [*[1] * READ_IN, 0, 1])
+    script.note("They are kept until the next edit: whoever asks then is answered in the first turn.")
+    beside_metadata(script, METADATA, [DONE] * 2, [0, 1, 1])
+    script.note("Two ask for them at once: one of them makes the steps, and the other waits for it.")
+    script.ask(MOVED)
+    both, third = Peer((0, METADATA), (30, END), answered=[METADATA], more=1), Peer((0, 6 * DONE), (29, END), answered=6 * [DONE])
+    log = logged((3, 6, "closed"), (1, 1, "closed"), (2, 1, "closed"))
+    listen(script, both, third, order=[*[2] * (READ_IN - 1), 0, 1, 2, 2], log=log, time=30)
+    script.note("A tile that is made meanwhile doesn't keep them waiting.")
+    script.ask(put(1))
+    first, second = Peer((0, A), (28, END), answered=[A]), Peer((0, METADATA), (29, END), answered=[METADATA])
+    third = Peer((0, 8 * DONE), (30, END), answered=8 * [DONE])
+    log = logged((1, 1, "closed"), (2, 1, "closed"), (3, 8, "closed"))
+    listen(script, first, second, third, order=[*[2] * (READ_IN - 1), 1, *[2] * 4, 0], log=log, time=30)
+    script.note("A request that is refused by its method asks for none, and changes nothing of those that are made.")
+    script.ask(MOVED)
+    beside_metadata(script, METADATA, [METADATA_POST, *[DONE] * 4], [*[1] * (READ_IN - 1), 0, 1])
+    script.ask(put(1))
+    one, other = Peer((0, METADATA_POST + DONE), (30, END), answered=[METADATA_POST, DONE]), Peer((0, 3 * SHOWN), (29, END), answered=3 * [SHOWN])
+    listen(script, one, other, order=[0, 1, 0, 1, 1], log=logged((2, 3, "closed"), (1, 2, "closed")), time=30)
+    script.note("Each edit has them begun anew, but only four times: then edits wait for them, and others don't.")
+    edits = [MOVED, put(1)] * 4
+    first, second, third = (Peer((0, METADATA), (29, END), answered=[METADATA]), Peer((0, b"".join(edits)), (30, END), answered=edits),
+                            Peer((0, 9 * SHOWN), (31, END), answered=9 * [SHOWN]))
+    log = logged((1, 1, "closed"), (2, 8, "closed"), (3, 9, "closed"))
+    listen(script, first, second, third, order=[*[1, 2] * 4, *[2] * 4, 0, 1, 2, 1, 1, 1], log=log, time=31)
+
+
+def refused_beside_metadata(script):
+    script.say("An edit that its conditions refuse changes nothing of the metadata that are made.")
+    with_many(script)
+    for refused in (request("PUT", "/features/1", b"{}", CONDITIONS[2]), request("DELETE", "/features/1", b"", CONDITIONS[1])):
+        script.ask(put(9))
+        beside_metadata(script, METADATA, [refused, *[DONE] * 4], [*[1] * (READ_IN - 1), 0, 1])
+
+
 # ---- tiles that are read by parts
 
 # The tile of a map of these features has between 2 and 3 MiB: it is read by three parts.
@@ -642,4 +699,4 @@ def whole_steps(script):
 
 BLOCKS = [no_descriptor, accepts_that_fail, so_many_are_open, turns, slow_readers, all_hold_too_much, so_many_reads]
 BLOCKS += [cut_anywhere, byte_by_byte, stages, paces, downloads, preparations, whole_preparations, whole_steps]
-BLOCKS += [with_tags(refused_meanwhile), long_tiles, wide_tiles, read_tiles]
+BLOCKS += [with_tags(refused_meanwhile), long_tiles, wide_tiles, read_tiles, long_metadata, with_tags(refused_beside_metadata)]

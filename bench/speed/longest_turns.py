@@ -1,5 +1,6 @@
 #!/usr/bin/env python3
-"""The longest turns of a server, in processor time, while a map is published and while its tile of zoom 0 is made or read from the archive.
+"""The longest turns of a server, in processor time, while a map is published, while its tile of zoom 0 is made or read from the archive, and while its
+metadata are asked for after an edit.
 
     python3 bench/speed/longest_turns.py PROGRAM DISK [ROUNDS]    DISK has a map, as editors.py or beginnings.py put one
 
@@ -14,6 +15,7 @@ import struct
 import subprocess
 import sys
 import tempfile
+import time
 
 from beginnings import Reader, ended, posted
 from editors import PLACES, Turns, loads, started
@@ -42,6 +44,17 @@ def tile(connection):
     return f"{len(connection.getresponse().read())} bytes"
 
 
+def metadata(connection):
+    """The metadata after an edit, which drops what the server has of them."""
+    connection.request("GET", "/features/1")
+    feature = connection.getresponse().read()
+    connection.request("PUT", "/features/1", feature)
+    connection.getresponse().read()
+    since = time.monotonic()
+    connection.request("GET", "/map/metadata")
+    return f"{len(connection.getresponse().read())} bytes in {(time.monotonic() - since) * 1000:.0f} ms"
+
+
 def begun(connection):
     return f"{posted(connection, '/publish/begin')[1]:.2f} s"
 
@@ -61,6 +74,8 @@ def measure(program, disk, turns, rounds):
     server, port = started(program, disk, turns)
     connection = http.client.HTTPConnection("127.0.0.1", port)
     measured("the tile is made", turns, port, lambda: tile(connection))
+    for _ in range(rounds):
+        measured("the metadata are made", turns, port, lambda: metadata(connection))
     for _ in range(rounds):
         measured("a beginning", turns, port, lambda: begun(connection))
         measured("its steps", turns, port, lambda: steps(connection))

@@ -1,11 +1,14 @@
 """The part `meanwhile` of run.py: what is served while a publication is prepared."""
+import concurrent.futures
 import http.client
+import itertools
 import json
 import os
 import random
 import select
 import socket
 import time
+from typing import Any, Iterator
 
 from .stand import JSON, Cases, Server, curl, feature, refusal, same, wanted
 
@@ -300,13 +303,61 @@ def large_tile(cases: Cases, folder: str) -> None:
     os.remove(server.disk)
 
 
+def again_and_again(server: Server, until: float, asked: Iterator[tuple[Any, ...]]) -> list[tuple[int, bytes]]:
+    """The replies to requests that `asked` gives, one after the other on one connection until a time."""
+    found, connection = [], http.client.HTTPConnection("127.0.0.1", server.port)
+    while time.monotonic() < until:
+        connection.request(*next(asked))
+        reply = connection.getresponse()
+        found.append((reply.status, reply.read()))
+    connection.close()
+    return found
+
+
+def text_with(layer: str) -> bytes:
+    """The metadata of a map with features in this layer and in `p`, on the same zooms and without tags."""
+    layers = [{"fields": {}, "id": name, "maxzoom": 2, "minzoom": 0} for name in (layer, "p")]
+    return json.dumps({"vector_layers": layers}, separators=(",", ":")).encode()
+
+
+def metadata_beside_editors(cases: Cases, folder: str) -> None:
+    """Metadata that two ask for again and again while two others edit without a pause: nobody waits for ever, and each
+    text is that of some edit."""
+    changes = [("PUT", "/features/0", feature(layer=layer)) for layer in "ab"]
+    with Server(folder, "metadata", 16384) as server:
+        for first in range(0, 20_000, 64):
+            numbers = range(first, min(first + 64, 20_000))
+            made = [{"put": number, "feature": json.loads(feature())} for number in numbers]
+            curl(server.url + "/edits", body=json.dumps({"changes": made}))
+        curl(server.url + "/features/0", "-X", "PUT", body=changes[0][2])
+        looks: list[tuple[Any, ...]] = [("GET", "/map/metadata")]
+        until = time.monotonic() + 2
+        with concurrent.futures.ThreadPoolExecutor(4) as pool:
+            pending = [
+                pool.submit(again_and_again, server, until, itertools.cycle(asked))
+                for asked in (looks, looks, changes, changes)
+            ]
+            *readers, one, other = [replies.result(60) for replies in pending]
+        several = [len(found) > 4 for found in readers]
+        cases.show("two readers of metadata beside two editors get several", several, [True, True])
+        told = {reply for found in readers for reply in found}
+        cases.show("each is of the map of then", told <= {(200, text_with(layer)) for layer in "ab"}, True)
+        made_on = [len(found) > 4 and {status for status, _ in found} == {200} for found in (one, other)]
+        cases.show("and the editors go on", made_on, [True, True])
+        curl(server.url + "/features/0", "-X", "PUT", body=changes[1][2])
+        told_last = curl(server.url + "/map/metadata")[2]
+        cases.show("then they are those of the last edit", told_last, text_with("b"))
+    os.remove(server.disk)
+
+
 def meanwhile(cases: Cases, folder: str) -> None:
-    """Publications that are prepared by a tile at a time, between which edits and looks are answered, and large
-    tiles that are read by parts."""
+    """Publications that are prepared by a tile at a time, between which edits and looks are answered, large
+    tiles that are read by parts, and metadata that are made by steps."""
     begun(cases, folder)
     whole(cases, folder)
     written(cases, folder)
     large_tile(cases, folder)
+    metadata_beside_editors(cases, folder)
 
 
 def begun(cases: Cases, folder: str) -> None:

@@ -8,6 +8,7 @@ pub mod Limits
 pub mod Listing
 pub mod Machine
 pub mod Making
+pub mod Metadata
 pub mod Opening
 pub mod Prepared
 pub mod Publishing

@@ -38,6 +38,7 @@ use Rattle.tile_service.specs.Drafted.{DraftedView, IsDrafted}
 use Rattle.tile_service.specs.declared.drafting.Draft.{Draft}
 use Rattle.tile_service.specs.declared.drafting.DraftStage.{DraftStage}
 use Rattle.tile_service.specs.declared.drafting.DraftStage.TheVariants.{Reading, Going, Found, Refused}
+use Rattle.tile_service.specs.declared.metadata_steps.MapMetadata.{MapMetadata}
 use Rattle.tile_service.specs.declared.reading.MapReading.{MapReading}
 use Rattle.tile_service.specs.declared.fault.ServiceFault.{ServiceFault}
 use Rattle.tile_service.specs.declared.fault.ServiceFault.TheVariants.{NumbersSpent, Memory, JournalFull, Device}
@@ -45,6 +46,7 @@ use Rattle.tile_service.specs.declared.publishing.TheConstants.{STEP_SECTORS}
 use Rattle.tile_service.specs.declared.status.Status.{Status}
 use Rattle.tile_service.specs.Machine.{ArchiveState, Publication, ServiceState, OrMemory, got, no_memory, Happening, edit, begin, step, read}
 use Rattle.tile_service.specs.Machine.{IsPublishable}
+use Rattle.tile_service.specs.Metadata.{IsMetadataStage}
 use Rattle.tile_service.specs.Publishing.{map_at, published, IsInArea, IsUnderWay, HasNoContent}
 use Rattle.tile_service.specs.Stored.{Stored, Holds, Keeps, map_of, last_of, stored_records, with_edit, journal_ring}
 use Rattle.tile_service.specs.Tiles.{WereMaps, archive_place}
@@ -156,9 +158,9 @@ pub record IsGoingDraft (size : ℕ) (root : Root) (journal : Journal) (features
   pub texts : length (snapshot features) ≤ SECTOR_BYTES * sectors_of (length (snapshot m)) + PART_BYTES * (journal.used - d.places)
   pub stage : IsStage (area_sectors size) m d.stage
 
--- the invariants of a service whose disk has this many sectors, and that keeps this text of its map's metadata, if any
+-- the invariants of a service whose disk has this many sectors, and that keeps this of its map's metadata, if any
 pub record IsService (sectors size version : ℕ) (root : Root) (journal : Journal) (map : CachedView) (publication : Option PublicationView)
-    (text : Option (List ℕ)) (moment : Option MomentView) (draft : Option Draft) : Type 0 where
+    (known : Option MapMetadata) (moment : Option MomentView) (draft : Option Draft) : Type 0 where
   pub within : size ≤ sectors
   pub version_is : IsVersion version
   pub ring : ring_of journal ≡ journal_ring size
@@ -171,7 +173,7 @@ pub record IsService (sectors size version : ℕ) (root : Root) (journal : Journ
   -- the last edit of the journal is that of the map
   pub last_is : map.last ≡ journal.last
   pub going : IfSome publication (IsGoing size root journal map.features)
-  pub told : IfSome text (IsMetadataOf map.features)
+  pub told : IfSome known (IsMetadataStage map.features)
   -- a moment that is still asked for is one of the map, and a draft is of the map of the moment
   pub as_of : IsMomentOf moment map.features
   pub drafts : IfSome draft (λ d. (moment_map moment ≡ Some (map_then (moment_map moment)))

@@ -12,6 +12,7 @@ mod formatting;
 mod letting_go;
 mod listing;
 mod making;
+mod metadata_steps;
 mod opening;
 mod published;
 mod publishing;

@@ -4,6 +4,7 @@ ghost use Rattle.generations.specs.Sectors.{IsVersion};
 
 use crate::drafting::Draft;
 use crate::letting_go::let_go;
+use crate::metadata_steps::MapMetadata;
 use crate::publishing::Publication;
 use area_content::SpentContent;
 use cached_map::CachedMap;
@@ -14,7 +15,6 @@ use published_tiles::PublishedTiles;
 use sector_disk::Sectors;
 use std::alloc::Global;
 use std::marker::Model;
-use std::rc::RcSlice;
 
 /// A map on a disk that nobody else writes.
 #[derive(Drop)]
@@ -25,8 +25,8 @@ pub struct Service<D: Sectors + Drop> {
     pub(crate) version: u32,
     pub(crate) journal: Journal,
     pub(crate) map: CachedMap,
-    /// The text of the map's metadata, if somebody has asked for it since the last edit.
-    pub(crate) metadata: Option<RcSlice<u8>>,
+    /// The metadata of the map, or what is read for it, if somebody has asked for it since the last edit.
+    pub(crate) metadata: Option<MapMetadata>,
     pub(crate) root: Root,
     pub(crate) publication: Option<Publication>,
     /// The publication in the making.
@@ -40,7 +40,6 @@ pub struct Service<D: Sectors + Drop> {
 }
 
 impl<D: Sectors + Drop> Model for Service<D> {
-    ghost use Rattle.cached_map.specs.Cached.{shared_bytes};
     ghost use Rattle.tile_service.specs.Service.{ServiceView, IsService};
 
     ghost Value = { ServiceView D };
@@ -49,8 +48,7 @@ impl<D: Sectors + Drop> Model for Service<D> {
 
     ghost view = { service_view };
 
-    ghost invariant = { λ s. IsService (D.sectors s.disk) s.layout.sectors s.version s.root s.journal s.map s.publication (shared_bytes s.metadata) s.moment
-        s.draft };
+    ghost invariant = { λ s. IsService (D.sectors s.disk) s.layout.sectors s.version s.root s.journal s.map s.publication s.metadata s.moment s.draft };
 }
 
 impl<D: Sectors + Drop> Service<D> {

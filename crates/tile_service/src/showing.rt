@@ -21,14 +21,13 @@ ghost use Rattle.tile_service.specs.Tags.{TellsNumber};
 ghost use Rattle.tile_service.specs.declared.fault.ServiceFault.TheVariants.{Memory};
 
 use crate::fault::ServiceFault;
+use crate::metadata_steps::{MapMetadata, metadata_of};
 use crate::service::Service;
 use edit_text::FeatureText;
-use feature_store::Store;
 use hilbert_id::TileAt;
-use map_metadata::metadata_text;
 use pm_archive::ArchiveFault;
 use sector_disk::Sectors;
-use std::alloc::{AllocError, Global};
+use std::alloc::AllocError;
 use std::rc::RcSlice;
 
 /// What was read, with bytes that can be shared.
@@ -42,15 +41,6 @@ fn share(found: Result<Option<Vec<u8>>, ArchiveFault>) -> Result<Option<RcSlice<
         },
         None => Ok(None),
     }
-}
-
-/// The text of the metadata of a map, made of all its features.
-fn text_of_metadata(alloc: Global, store: &Store) -> Result<RcSlice<u8>, AllocError>
-    ensures { IfOk result (λ text. IsMetadataOf store.now.features (rc_slice_items text)) }
-{
-    let mut bytes = metadata_text(alloc, store)?.into_bytes();
-    bytes.shrink_to_fit();
-    RcSlice::from_vec(bytes)
 }
 
 /// The same bytes, shared with the caller.
@@ -174,19 +164,17 @@ impl<D: Sectors + Drop> Service<D> {
     }
 
     /// The JSON metadata of the map after the last acknowledged edit, as in an archive of its tiles: as compact text, which reads as it.
-    /// It is made of all features by the first call after an edit, and shared by those that follow. The only error is `Memory`.
+    /// It is made by the first call after an edit, of all features or of those that `prepare_metadata` hasn't read, and shared by those that
+    /// follow. The only error is `Memory`.
     pub fn metadata(&mut self) -> Result<RcSlice<u8>, ServiceFault>
         ensures metadata { IfOk result (λ text. IsMetadataOf self.old.features (rc_slice_items text)) }
         ensures fault { IfErr result (λ fault. fault ≡ Memory) }
         ensures same { self.new ≡ self.old }
     {
-        if let Some(text) = &self.metadata {
-            return shared(text);
-        }
-        match text_of_metadata(self.alloc, self.map.store()) {
+        match metadata_of(self.alloc, self.metadata.take(), self.map.store()) {
             Ok(text) => {
                 let result = shared(&text);
-                self.metadata = Some(text);
+                self.metadata = Some(MapMetadata::Text(text));
                 result
             }
             Err(AllocError) => Err(ServiceFault::Memory),

@@ -22,6 +22,7 @@ use Rattle.tile_service.specs.Machine.{ServiceState, Call, Accepts, IsWanted, An
 use Rattle.tile_service.specs.Service.{PublicationView, IsGoing, IsGoingDraft, IsService, Known, map_then, drafted_by, state_of, told_as}
 use Rattle.tile_service.specs.declared.drafting.Draft.{Draft}
 use Rattle.tile_service.specs.declared.fault.ServiceFault.TheVariants.{Device}
+use Rattle.tile_service.specs.declared.metadata_steps.MapMetadata.{MapMetadata}
 use Rattle.tile_service.specs.declared.service.Service.TheInside.{Inside}
 
 -- the texts of a map take the bytes of an area and of this many places
@@ -69,11 +70,11 @@ module _ (size version : ℕ) (root : Root) (old new : Journal) (ring : ring_of 
       )
 
   -- A moment that is still asked for is one of the map after the edit, too.
-  pub service_on : (sectors now : ℕ) (publication : Option PublicationView) (text : Option (List ℕ)) (moment then : Option MomentView)
+  pub service_on : (sectors now : ℕ) (publication : Option PublicationView) (known : Option MapMetadata) (moment then : Option MomentView)
       (draft : Option Draft) → now ≡ sectors → moment_map then ≡ moment_map moment
       → (IsMomentOf moment map.features → IsMomentOf then later.features)
-      → IsService sectors size version root old map publication text moment draft → IsService now size version root new later publication None then draft
-  service_on sectors now publication text moment then draft same same_moment as_of was = record {
+      → IsService sectors size version root old map publication known moment draft → IsService now size version root new later publication None then draft
+  service_on sectors now publication known moment then draft same same_moment as_of was = record {
     within = omega (arith, was.within, same);
     version_is = was.version_is;
     ring = ring ∙ was.ring;
@@ -93,14 +94,14 @@ same_drafted old new draft same =
     ap (λ (o : Option FeatureMap). option_map (λ (d : Draft). record { start = d.start; places = d.places; features = map_then o }) draft) same
 
 -- After an edit that is refused the invariants hold as before, with more memory for features.
-pub refused_service : {sectors now size version : ℕ} {root : Root} {old : Journal} {publication : Option PublicationView} {text : Option (List ℕ)}
+pub refused_service : {sectors now size version : ℕ} {root : Root} {old : Journal} {publication : Option PublicationView} {known : Option MapMetadata}
     {moment : Option MomentView} {draft : Option Draft} (new : Journal) (map later : CachedView) → now ≡ sectors → new ≡ old
-    → later ≡ record map { spare = later.spare } → IsService sectors size version root old map publication text moment draft
-    → IsService now size version root new later publication text moment draft
-refused_service {sectors} {now} {size} {version} {root} {old} {publication} {text} {moment} {draft} new map later count kept same is =
-    subst (λ (n : ℕ). IsService n size version root new later publication text moment draft) (sym count)
-    (subst (λ (j : Journal). IsService sectors size version root j later publication text moment draft) (sym kept)
-    (subst (λ (m : CachedView). IsService sectors size version root old m publication text moment draft) (sym same) (record {
+    → later ≡ record map { spare = later.spare } → IsService sectors size version root old map publication known moment draft
+    → IsService now size version root new later publication known moment draft
+refused_service {sectors} {now} {size} {version} {root} {old} {publication} {known} {moment} {draft} new map later count kept same is =
+    subst (λ (n : ℕ). IsService n size version root new later publication known moment draft) (sym count)
+    (subst (λ (j : Journal). IsService sectors size version root j later publication known moment draft) (sym kept)
+    (subst (λ (m : CachedView). IsService sectors size version root old m publication known moment draft) (sym same) (record {
       within = is.within;
       version_is = is.version_is;
       ring = is.ring;

@@ -26,6 +26,7 @@ use Rattle.tile_service.specs.declared.drafting.Draft.{Draft}
 use Rattle.tile_service.specs.declared.fault.ServiceFault.{ServiceFault}
 use Rattle.tile_service.specs.declared.drafting.DraftStage.{DraftStage}
 use Rattle.tile_service.specs.declared.drafting.DraftStage.TheVariants.{Reading, Going, Found, Refused}
+use Rattle.tile_service.specs.declared.metadata_steps.MapMetadata.{MapMetadata}
 use Rattle.tile_service.proofs.Publications.DuringEdits.{begins}
 use Rattle.tile_service.proofs.Publications.Installed.{all_taken}
 use Rattle.tile_service.proofs.Publications.Steps.{archive_of_publishable, up_with}
@@ -91,10 +92,10 @@ draft_goes size root journal features m d content going is = record {
 
 -- A service whose draft is further has the invariants as before.
 pub service_drafting : {sectors size version : ℕ} {root : Root} {journal : Journal} {map : CachedView} {publication : Option PublicationView}
-    {text : Option (List ℕ)} {moment : Option MomentView} {draft : Option Draft} (old : Draft) (made : ℕ) (stage : DraftStage) → draft ≡ Some old
+    {known : Option MapMetadata} {moment : Option MomentView} {draft : Option Draft} (old : Draft) (made : ℕ) (stage : DraftStage) → draft ≡ Some old
     → ((area : ℕ) → IsStage area (map_then (moment_map moment)) old.stage → IsStage area (map_then (moment_map moment)) stage)
-    → IsService sectors size version root journal map publication text moment draft
-    → IsService sectors size version root journal map publication text moment (Some (record old { made = made; stage = stage }))
+    → IsService sectors size version root journal map publication known moment draft
+    → IsService sectors size version root journal map publication known moment (Some (record old { made = made; stage = stage }))
 service_drafting {size = size} {root = root} {journal} {map} {moment = moment} old made stage is further was =
     let going = subst (λ (o : Option Draft). IfSome o (λ d. (moment_map moment ≡ Some (map_then (moment_map moment)))
     × IsGoingDraft size root journal map.features (map_then (moment_map moment)) d)) is was.drafts in
@@ -187,10 +188,10 @@ up_drafted sectors h stored service d content up is generation is_map has =
 
 -- the invariants without a draft, and with another publication that is going on
 pub service_undrafted : {sectors size version : ℕ} {root : Root} {journal : Journal} {map : CachedView} {publication : Option PublicationView}
-    {text : Option (List ℕ)} {moment : Option MomentView} {draft : Option Draft} (later : Option PublicationView) (then : Option MomentView)
+    {known : Option MapMetadata} {moment : Option MomentView} {draft : Option Draft} (later : Option PublicationView) (then : Option MomentView)
     (rest : Option Draft) → then ≡ None → rest ≡ None → IfSome later (IsGoing size root journal map.features)
-    → IsService sectors size version root journal map publication text moment draft
-    → IsService sectors size version root journal map later text then rest
+    → IsService sectors size version root journal map publication known moment draft
+    → IsService sectors size version root journal map later known then rest
 service_undrafted {size = size} {root = root} {journal} {map} later then rest none_then none going was = record {
   within = was.within;
   version_is = was.version_is;
@@ -218,8 +219,8 @@ is_map_then (Some t) features as_of is = as_of.is_map
 
 -- A draft that is there goes on: what is invariant of it.
 pub draft_there : {sectors size version : ℕ} {root : Root} {journal : Journal} {map : CachedView} {publication : Option PublicationView}
-    {text : Option (List ℕ)} {moment : Option MomentView} {draft : Option Draft} (d : Draft) → draft ≡ Some d
-    → IsService sectors size version root journal map publication text moment draft
+    {known : Option MapMetadata} {moment : Option MomentView} {draft : Option Draft} (d : Draft) → draft ≡ Some d
+    → IsService sectors size version root journal map publication known moment draft
     → IsMap (map_then (moment_map moment)) × IsGoingDraft size root journal map.features (map_then (moment_map moment)) d
 draft_there {size = size} {root = root} {journal} {map} {moment = moment} d is was =
     let there = subst (λ (o : Option Draft). IfSome o (λ x. (moment_map moment ≡ Some (map_then (moment_map moment)))
@@ -228,10 +229,10 @@ draft_there {size = size} {root = root} {journal} {map} {moment = moment} d is w
 
 -- With what is made of it, it is as far as that is.
 pub stage_reached : {sectors size version : ℕ} {root : Root} {journal : Journal} {map : CachedView} {publication : Option PublicationView}
-    {text : Option (List ℕ)} {moment : Option MomentView} {draft : Option Draft} (d : Draft) (then : Option MomentView) (reached : DraftStage)
+    {known : Option MapMetadata} {moment : Option MomentView} {draft : Option Draft} (d : Draft) (then : Option MomentView) (reached : DraftStage)
     → draft ≡ Some d → then ≡ moment
     → ((area : ℕ) → IsStage area (map_then (moment_map then)) d.stage → IsStage area (map_then (moment_map then)) reached)
-    → IsService sectors size version root journal map publication text moment draft
+    → IsService sectors size version root journal map publication known moment draft
     → IsStage (area_sectors size) (map_then (moment_map moment)) reached
 stage_reached {size = size} {moment = moment} d then reached is same further was =
     subst (λ (o : Option MomentView). (area : ℕ) → IsStage area (map_then (moment_map o)) d.stage → IsStage area (map_then (moment_map o)) reached)

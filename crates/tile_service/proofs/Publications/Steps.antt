@@ -43,6 +43,7 @@ use Rattle.tile_service.specs.Tiles.{WereMaps}
 use Rattle.tile_service.specs.declared.drafting.Draft.{Draft}
 use Rattle.tile_service.specs.declared.fault.ServiceFault.{ServiceFault}
 use Rattle.tile_service.specs.declared.fault.ServiceFault.TheVariants.{Memory, TooManyTiles, AreaFull, Device}
+use Rattle.tile_service.specs.declared.metadata_steps.MapMetadata.{MapMetadata}
 use Rattle.tile_service.specs.declared.publishing.TheConstants.{STEP_SECTORS}
 use Rattle.tile_service.proofs.Archive.Read.{up_moved}
 use Rattle.tile_service.proofs.Tiles.EarlierMaps.{were_published}
@@ -53,18 +54,18 @@ use Rattle.tile_service.proofs.Publications.DuringEdits.{begins, all_written}
 
 -- A service on another disk with as many sectors has the invariants as before,
 pub service_on_disk : {sectors now size version : ℕ} {root : Root} {journal : Journal} {map : CachedView} {publication : Option PublicationView}
-    {text : Option (List ℕ)} {moment : Option MomentView} {draft : Option Draft} → now ≡ sectors
-    → IsService sectors size version root journal map publication text moment draft
-    → IsService now size version root journal map publication text moment draft
-service_on_disk {size = size} {version} {root} {journal} {map} {publication} {text} {moment} {draft} same is =
-    subst (λ (n : ℕ). IsService n size version root journal map publication text moment draft) (sym same) is
+    {known : Option MapMetadata} {moment : Option MomentView} {draft : Option Draft} → now ≡ sectors
+    → IsService sectors size version root journal map publication known moment draft
+    → IsService now size version root journal map publication known moment draft
+service_on_disk {size = size} {version} {root} {journal} {map} {publication} {known} {moment} {draft} same is =
+    subst (λ (n : ℕ). IsService n size version root journal map publication known moment draft) (sym same) is
 
 -- and one with another publication under way if that is going,
 pub service_with : {sectors size version : ℕ} {root : Root} {journal : Journal} {map : CachedView} {publication : Option PublicationView}
-    {text : Option (List ℕ)} {moment : Option MomentView} {draft : Option Draft} (later : Option PublicationView)
+    {known : Option MapMetadata} {moment : Option MomentView} {draft : Option Draft} (later : Option PublicationView)
     → IfSome later (IsGoing size root journal map.features)
-    → IsService sectors size version root journal map publication text moment draft
-    → IsService sectors size version root journal map later text moment draft
+    → IsService sectors size version root journal map publication known moment draft
+    → IsService sectors size version root journal map later known moment draft
 service_with later going is = record {
   within = is.within;
   version_is = is.version_is;
@@ -81,9 +82,9 @@ service_with later going is = record {
 
 -- or without one.
 pub service_idle : {sectors size version : ℕ} {root : Root} {journal : Journal} {map : CachedView} {publication : Option PublicationView}
-    {text : Option (List ℕ)} {moment : Option MomentView} {draft : Option Draft} (later : Option PublicationView) → later ≡ None
-    → IsService sectors size version root journal map publication text moment draft
-    → IsService sectors size version root journal map later text moment draft
+    {known : Option MapMetadata} {moment : Option MomentView} {draft : Option Draft} (later : Option PublicationView) → later ≡ None
+    → IsService sectors size version root journal map publication known moment draft
+    → IsService sectors size version root journal map later known moment draft
 service_idle {size = size} {root = root} {journal} {map} later none is =
     service_with later (subst (λ (o : Option PublicationView). IfSome o (IsGoing size root journal map.features)) (sym none) tt) is
 

@@ -9,6 +9,7 @@ use Rattle.edit_journal.specs.declared.journal.Journal.{Journal}
 use Rattle.generations.specs.declared.root.Root.{Root}
 use Rattle.feature_store.specs.Moments.{MomentView}
 use Rattle.tile_service.specs.declared.drafting.Draft.{Draft}
+use Rattle.tile_service.specs.declared.metadata_steps.MapMetadata.{MapMetadata}
 use Rattle.tile_service.specs.Inside.{service_view}
 use Rattle.tile_service.specs.Service.{PublicationView, ServiceView, IsService, IsUp}
 use Rattle.tile_service.specs.Stored.{Stored}
@@ -89,12 +90,12 @@ pub nothing_given : (bytes : List ℕ) → None ≡ Some bytes → ⊥
 nothing_given bytes is = cc
 
 -- With other tiles cached the invariants of a service hold as before.
-pub service_cached : {sectors size version : ℕ} {root : Root} {journal : Journal} {publication : Option PublicationView} {text : Option (List ℕ)}
+pub service_cached : {sectors size version : ℕ} {root : Root} {journal : Journal} {publication : Option PublicationView} {known : Option MapMetadata}
     {moment : Option MomentView} {draft : Option Draft} (map later : CachedView) → later ≡ record map { kept = later.kept }
-    → IsService sectors size version root journal map publication text moment draft
-    → IsService sectors size version root journal later publication text moment draft
-service_cached {sectors} {size} {version} {root} {journal} {publication} {text} {moment} {draft} map later same is =
-    subst (λ (m : CachedView). IsService sectors size version root journal m publication text moment draft) (sym same) (record {
+    → IsService sectors size version root journal map publication known moment draft
+    → IsService sectors size version root journal later publication known moment draft
+service_cached {sectors} {size} {version} {root} {journal} {publication} {known} {moment} {draft} map later same is =
+    subst (λ (m : CachedView). IsService sectors size version root journal m publication known moment draft) (sym same) (record {
       within = is.within;
       version_is = is.version_is;
       ring = is.ring;
