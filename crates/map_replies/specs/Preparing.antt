@@ -11,11 +11,12 @@ use Rattle.sector_bytes.specs.Counts.{NeverFalls}
 use Rattle.sector_disk.specs.Asked.{OnlyReads}
 use Rattle.sector_disk.specs.Disk.{History}
 use Rattle.tile_routes.specs.Methods.{method_on}
-use Rattle.tile_routes.specs.Paths.{Asked, asked_action}
+use Rattle.tile_routes.specs.Paths.{Asked, asked_action, asked_view}
 use Rattle.tile_routes.specs.declared.fault.RouteFault.{RouteFault}
 use Rattle.tile_routes.specs.declared.method.Method.{Method}
-use Rattle.tile_routes.specs.declared.method.Method.TheVariants.{Post}
+use Rattle.tile_routes.specs.declared.method.Method.TheVariants.{Get, Head, Post}
 use Rattle.tile_routes.specs.declared.target.Action.TheVariants.{Publish, PublishBegin, PublishStep, PublishCancel}
+use Rattle.tile_routes.specs.declared.target.View.TheVariants.{Metadata}
 use Rattle.tile_service.specs.Drafted.{DraftedView}
 use Rattle.tile_service.specs.Machine.{Happening, begin, step, cancel}
 use Rattle.tile_service.specs.Prepared.{CanPrepare}
@@ -45,6 +46,12 @@ asks_to_publish (asked_action PublishBegin) = true
 asks_to_publish (asked_action PublishStep) = true
 asks_to_publish (asked_action PublishCancel) = true
 asks_to_publish asked = false
+
+-- it asks for the metadata of the map, by a method that shows them
+abbrev pub asks_for_metadata : Asked → Result Method RouteFault → Bool
+asks_for_metadata (asked_view Metadata) (Ok Get) = true
+asks_for_metadata (asked_view Metadata) (Ok Head) = true
+asks_for_metadata asked method = false
 
 -- so it does by a method and with conditions that don't refuse it: a request that is refused by its method, or by its conditions, asks for nothing
 abbrev pub calls_publication : Asked → Result Method RouteFault → AskView → Bool

@@ -11,6 +11,7 @@ mod editing;
 mod fault;
 mod feed;
 mod lists;
+mod long_metadata;
 mod long_tiles;
 mod numbered;
 mod pages;

@@ -3,8 +3,9 @@ use crate::turns::Turns;
 use hilbert_id::TileAt;
 use tile_routes::{Action, Method, Target};
 
-/// How many times a tile is begun for a request while edits go on: an edit drops what is made. It is begun once more while they wait.
-const MAX_TRIES: u32 = 4;
+/// How many times a tile, or the metadata, are begun for a request while edits go on: an edit drops what is made. They are begun once more while they
+/// wait.
+pub(crate) const MAX_TRIES: u32 = 4;
 
 /// How many tiles are known to be long.
 const MAX_KNOWN: usize = 8;

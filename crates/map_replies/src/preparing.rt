@@ -1,6 +1,6 @@
 //! The replies of a map between which a publication is prepared: its map is fixed as it is asked for, its tiles are made one by one while other
 //! requests are answered, and then it begins. A whole one is written by steps between other replies too. A tile of many features is made by parts
-//! too, before its reply, and a large tile of the archive is read by parts.
+//! too, before its reply, a large tile of the archive is read by parts, and so are the features of a large map for its metadata.
 ghost use Rattle.std.specs.Prelude.{◌≡◌, ◌≤◌, true, [], length, vec_capacity, IsTrue, IfErr, IfSome, None, Some, Ok};
 ghost use Rattle.http_serve.specs.Reply.{ReplyView, IsReply, InParts, IsWhole, HasShortWords, head_view, reply_view};
 ghost use Rattle.tile_routes.specs.Methods.{method_on};
@@ -18,6 +18,7 @@ ghost use Rattle.map_replies.specs.State.{access_of, tags_of};
 ghost use Rattle.map_replies.specs.Words.{left_reply};
 
 use crate::calls::Calls;
+use crate::long_metadata::{LongMetadata, is_for_metadata};
 use crate::long_tiles::{LongTiles, ReadyTiles, asked_tile, is_for_edit};
 use crate::replies;
 use crate::service::MapReplies;
@@ -41,6 +42,8 @@ pub struct PreparingReplies<D: Sectors + Drop> {
     /// The tile in the making, or being read.
     tiles: LongTiles,
     ready: ReadyTiles,
+    /// The metadata in the making.
+    metadata: LongMetadata,
     /// Which connection's publication is prepared.
     turns: Turns,
     /// Whether the request that comes next is the one for which it is prepared.
@@ -146,6 +149,7 @@ impl<D: Sectors + Drop> PreparingReplies<D> {
             whole: None,
             tiles: LongTiles::new(),
             ready: ReadyTiles::new(),
+            metadata: LongMetadata::new(),
             turns: Turns::new(),
             is_next: false,
         }
@@ -386,12 +390,37 @@ impl<D: Sectors + Drop> PreparingReplies<D> {
         }
     }
 
-    /// What comes before the answer to an edit: it may have to wait for a tile.
+    /// Reads the next features of the map for the request of a connection for its metadata, unless these are made. If another connection's request
+    /// has the turns, it waits for that one.
+    fn prepare_metadata(&mut self, connection: u64) -> Preparation
+        ensures same { self.new.replies ≡ self.old.replies }
+        ensures whole { beginning_of self.new ≡ beginning_of self.old }
+    {
+        if self.replies.calls.service.has_metadata() {
+            self.metadata.end(connection);
+            return Preparation::Ready;
+        }
+        let is_begun = self.replies.calls.service.metadata_in_making();
+        if is_begun && self.metadata.waits_for_owner(connection) {
+            return Preparation::Waits;
+        }
+        self.metadata.give(connection);
+        if (is_begun || self.metadata.begins()) && self.replies.calls.service.prepare_metadata() {
+            return Preparation::GoesOn;
+        }
+        self.metadata.end(connection);
+        Preparation::Ready
+    }
+
+    /// What comes before the answer to an edit: it may have to wait for a tile, or for the metadata.
     fn prepare_edit(&mut self, connection: u64) -> Preparation
         ensures same { self.new.replies ≡ self.old.replies }
         ensures whole { beginning_of self.new ≡ beginning_of self.old }
     {
         if self.tiles.holds_edit(connection) {
+            return Preparation::Waits;
+        }
+        if self.metadata.holds_edit(connection) {
             return Preparation::Waits;
         }
         Preparation::Ready
@@ -404,10 +433,14 @@ impl<D: Sectors + Drop> PreparingReplies<D> {
         self.is_next = false;
         if !self.replies.calls.service.is_large() {
             self.tiles.forget();
+            self.metadata.forget();
             return Preparation::Ready;
         }
         if let Some(at) = asked_tile(target, method) {
             return self.prepare_asked(connection, at);
+        }
+        if is_for_metadata(target, method) {
+            return self.prepare_metadata(connection);
         }
         if is_for_edit(target, method) {
             return self.prepare_edit(connection);

@@ -10,6 +10,9 @@ returns-in-Some g c =
     let d = g.D.Sectors in
     tile_at d.sectors d.honest d.history d.faults c.args.self.now _ false c.prepare_asked.ensures
 
+pub returns-then-is_for_metadata : goal.returns-then-is_for_metadata
+returns-then-is_for_metadata g c = inl (c.prepare_metadata.ensures.same, c.prepare_metadata.ensures.whole)
+
 pub returns-then-is_for_edit : goal.returns-then-is_for_edit
 returns-then-is_for_edit g c = inl (c.prepare_edit.ensures.same, c.prepare_edit.ensures.whole)
 
