@@ -52,6 +52,10 @@ module _ {S : Type 0} where
   pub all_stand_events : (events : List Event) (old new : ℕ → Option (Peer S)) → ((key : ℕ) → new key ≡ after_events key events (old key)) → AllStand old new
   all_stand_events events old new same key = subst (λ (x : Option (Peer S)). StandsAt (old key) x) (sym (same key)) (stand_events key events (old key))
 
+  -- One after the other.
+  pub all_stand_both : (old mid new : ℕ → Option (Peer S)) → AllStand old mid → AllStand mid new → AllStand old new
+  all_stand_both old mid new s t key = stand_both (old key) (mid key) (new key) (s key) (t key)
+
   -- The connections are the same.
   pub all_stand_same : (old new : ℕ → Option (Peer S)) → ((key : ℕ) → new key ≡ old key) → AllStand old new
   all_stand_same old new same key = subst (λ (x : Option (Peer S)). StandsAt (old key) x) (sym (same key)) (stand_same (old key))

@@ -4,6 +4,8 @@ pub mod Conversations
 pub mod Deeds
 pub mod Found
 pub mod Goes
+pub mod Holds
+pub mod LetsGo
 pub mod Lines
 pub mod Listeners
 pub mod Marks

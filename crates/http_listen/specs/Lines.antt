@@ -4,7 +4,7 @@ use Rattle.http_serve.specs.declared.connection.End.{End}
 use Rattle.http_serve.specs.declared.connection.End.TheVariants.{Closed, Asked, Refused, Turns}
 use Rattle.http_serve.specs.declared.connection.Served.{Served}
 use Rattle.http_listen.specs.declared.ends.EndFault.{EndFault}
-use Rattle.http_listen.specs.declared.ends.EndFault.TheVariants.{Memory, Read, Write, Device, Gone}
+use Rattle.http_listen.specs.declared.ends.EndFault.TheVariants.{Memory, Read, Write, Device, Gone, Unconfirmed}
 
 -- the word for an end
 abbrev pub end_word : End → List ℕ
@@ -21,6 +21,7 @@ result_word (Err (Read requests)) = codes "read"
 result_word (Err (Write requests)) = codes "write"
 result_word (Err (Device requests)) = codes "device"
 result_word (Err (Gone requests)) = codes "gone"
+result_word (Err (Unconfirmed requests)) = codes "unconfirmed"
 
 -- how many requests of a stretch got a whole reply
 abbrev pub replied_requests : Result Served EndFault → ℕ
@@ -30,6 +31,7 @@ replied_requests (Err (Read requests)) = requests
 replied_requests (Err (Write requests)) = requests
 replied_requests (Err (Device requests)) = requests
 replied_requests (Err (Gone requests)) = requests
+replied_requests (Err (Unconfirmed requests)) = requests
 
 -- how many requests of a connection did: those of its last stretch, and the earlier ones, as far as 64 bits count
 abbrev pub all_requests : (earlier : ℕ) → Result Served EndFault → ℕ

@@ -1,11 +1,12 @@
 //! The connections of a listener.
-ghost use Rattle.std.specs.Prelude.{◌≡◌, ◌<◌, ◌≤◌, ◌∷◌, [], ℕ, Result, List, None, Some, take, drop, OnOk, OnErr};
+ghost use Rattle.std.specs.Prelude.{◌≡◌, ◌⊎◌, ◌<◌, ◌≤◌, ◌∷◌, [], ℕ, Result, List, None, Some, IsSome, take, drop, OnOk, OnErr};
 ghost use Rattle.http_listen.specs.Rests.{rest_after};
 ghost use Rattle.http_requests.specs.Frame.{IsNext};
 ghost use Rattle.http_requests.specs.Inputs.{IsAsked, IsFound};
 ghost use Rattle.http_requests.specs.declared.frames.Next.TheVariants.{Whole};
 ghost use Rattle.http_serve.specs.Connections.{PreparesNext};
 ghost use Rattle.http_listen.specs.Conversations.{Act, Deed, Answers, Does, IsEndedBy, Runs, Stands, Steps, deeds_of};
+ghost use Rattle.http_listen.specs.Holds.{HoldsFor};
 ghost use Rattle.http_listen.specs.Orders.{AreInOrder};
 ghost use Rattle.http_listen.specs.Goes.{Acts, AreOver};
 ghost use Rattle.http_listen.specs.Places.{peer_at};
@@ -19,7 +20,9 @@ use crate::step_time::StepTime;
 use crate::talks::Talks;
 use crate::waits::Waits;
 use http_requests::{FieldSpans, Frame, Next};
-use http_serve::{Answer, Asked, Connection, Downloads, NOTHING_ASKED, Preparation, Prepares};
+use http_serve::{
+    Answer, Asked, Connection, Downloads, Hold, Moment, NOTHING_ASKED, Preparation, Prepares,
+};
 use std::alloc::{AllocError, Global};
 use std::net::OpenStream;
 use std::time::{Clock, Duration};
@@ -35,6 +38,9 @@ pub enum ListenFault {
 
 /// The maximum number of turns: more than there ever are.
 const MAX_TURNS: u64 = u64::MAX;
+
+/// The maximum number of requests that rest: at most half as many as there may be connections.
+const MAX_RESTING: usize = 4_096;
 
 /// The maximum number of steps of a preparation in one turn, also where the clock stands still.
 const MAX_STEPS: u64 = 4_096;
@@ -98,6 +104,32 @@ struct Acted {
     ending: Ending,
 }
 
+/// What the reply to this waits for, if the handler made it: it isn't asked for the reply to bytes that are no request.
+fn hold_for<H: Prepares>(handler: &H, found: Next) -> Option<Hold>
+    ensures { HoldsFor H.holds found handler.now result }
+{
+    match found {
+        Next::Whole(_) => handler.hold(),
+        Next::Refused(_) => None,
+        Next::More(_) => None,
+    }
+}
+
+/// The same by what the answer came to: if memory runs out, there is no reply of the handler.
+fn hold_after_answer<H: Prepares>(
+    handler: &H,
+    found: Next,
+    outcome: Result<Answer, AllocError>,
+) -> Option<Hold>
+    ensures ok { OnOk outcome (HoldsFor H.holds found handler.now result) }
+    ensures err { OnErr outcome (result ≡ None) }
+{
+    match outcome {
+        Ok(_) => hold_for(handler, found),
+        Err(_) => None,
+    }
+}
+
 /// Answers what was found at the front of a connection's input, in a stretch of it, and begins to send the replies, in spare room if memory runs out.
 /// Nothing waits to be sent before. The time since `start` is that of the answer.
 fn answer_front<S, H, C>(
@@ -119,18 +151,28 @@ where
     ensures places { pool.new.places ≡ pool.old.places }
     ensures acts { (act : Act) × Does H.replies H.reads H.ticket_of H.prepares handler.old peer.old.state.number act handler.new
         × Steps S.told peer.old (act ∷ []) (result.ending ≡ None) peer.new }
+    // Unless nothing was asked of the handler, the reply waits for what it says, and while it waits nothing of it is sent.
+    ensures waits { (handler.new ≡ handler.old)
+        ⊎ (HoldsFor H.holds asked.found handler.new peer.new.state.hold × (IsSome peer.new.state.hold → peer.new.stream ≡ peer.old.stream)) }
 {
     pool.spare.refill();
     peer.connection.begin(&mut pool.spare);
     let outcome = serve_front(peer, &pool.fields, asked, handler);
     let now = pool.spend(clock, start);
-    peer.answered(now, outcome);
+    let hold = hold_after_answer(handler, asked.found, outcome);
+    peer.answered(now, outcome, hold);
     let ending = peer.send_replies(now);
     Acted { now, ending }
 }
 
 /// A connection has another turn before it is answered. The time since `start` is that of steps of its reply's preparation.
-fn put_off<S, C>(clock: &C, start: Duration, pool: &mut Pool<S>, peer: &mut Peer<S>) -> Acted
+fn put_off<S, C>(
+    clock: &C,
+    start: Duration,
+    pool: &mut Pool<S>,
+    peer: &mut Peer<S>,
+    prepared: Preparation,
+) -> Acted
 where
     S: Talks + OpenStream + Drop,
     C: Clock,
@@ -139,60 +181,65 @@ where
     ensures places { pool.new.places ≡ pool.old.places }
 {
     let now = pool.spend(clock, start);
+    if let Preparation::Rests(longest) = prepared {
+        peer.rest(now, start, longest);
+        return Acted { now, ending: None };
+    }
     pool.step_time.end(time_of(clock));
-    peer.put_off(now);
+    peer.put_off(now, start);
     Acted { now, ending: None }
 }
 
 /// Makes steps of the preparation of the reply to the request at `frame` in the input of the connection of a number, one at least, until they have taken as
-/// long since `start` as a turn may or one has to wait for other connections. It is true while steps may be left.
+/// long since the moment as a turn may or one has to wait for other connections. Returns what the last one came to.
 fn prepare_for<H: Prepares, C: Clock>(
     clock: &C,
-    start: Duration,
+    moment: Moment,
     step_time: StepTime,
     number: u64,
     connection: &Connection,
     fields: &FieldSpans,
     frame: &Frame,
     handler: &mut H,
-) -> bool
+) -> Preparation
     requires found { IsNext connection.now.input fields.now (Whole frame.now) }
     ensures { (steps : ℕ) × AreSteps (PreparesNext H.prepares number (take frame.now.body.end connection.now.input)) steps handler.old handler.new }
 {
     'steps: for _step in 0..MAX_STEPS {
-        match connection.prepare(handler, number, fields, frame) {
-            Preparation::Ready => return false,
-            Preparation::Waits => return true,
+        match connection.prepare(handler, number, moment, fields, frame) {
+            Preparation::Ready => return Preparation::Ready,
+            Preparation::Waits => return Preparation::Waits,
+            Preparation::Rests(longest) => return Preparation::Rests(longest),
             Preparation::GoesOn => {}
         }
-        if time_of(clock).saturating_sub(start) >= step_time.of_turn(start) {
-            return true;
+        if time_of(clock).saturating_sub(moment.now) >= step_time.of_turn(moment.now) {
+            return Preparation::GoesOn;
         }
     }
-    true
+    Preparation::GoesOn
 }
 
 /// The same for what was found at the front of a connection's input. The refusal of bytes that are no request needs no step, and gets none.
 fn prepare_found<H: Prepares, C: Clock>(
     clock: &C,
-    start: Duration,
+    moment: Moment,
     step_time: StepTime,
     number: u64,
     connection: &Connection,
     fields: &FieldSpans,
     asked: Asked,
     handler: &mut H,
-) -> bool
+) -> Preparation
     requires found { IsFound connection.now.input fields.now asked }
     ensures steps { (steps : ℕ) × AreSteps (PreparesNext H.prepares number (take asked.end connection.now.input)) steps handler.old handler.new }
     ensures none { IsNoRequest asked.found → handler.new ≡ handler.old }
 {
     match asked.found {
         Next::Whole(frame) => prepare_for(
-            clock, start, step_time, number, connection, fields, &frame, handler,
+            clock, moment, step_time, number, connection, fields, &frame, handler,
         ),
-        Next::Refused(_) => false,
-        Next::More(_) => false,
+        Next::Refused(_) => Preparation::Ready,
+        Next::More(_) => Preparation::Ready,
     }
 }
 
@@ -218,17 +265,18 @@ where
         × Steps S.told peer.old acts (result.ending ≡ None) peer.new }
 {
     let start = time_of(clock);
-    if prepare_found(
+    let prepared = prepare_found(
         clock,
-        start,
+        peer.moment(start),
         pool.step_time,
         peer.state.number,
         &peer.connection,
         &pool.fields,
         asked,
         handler,
-    ) {
-        return put_off(clock, start, pool, peer);
+    );
+    if pool.puts_off(prepared) {
+        return put_off(clock, start, pool, peer, prepared);
     }
     answer_front(clock, start, pool, peer, asked, handler)
 }
@@ -256,6 +304,7 @@ where
 {
     let Acted { now, ending } = prepare_front(clock, pool, &mut peer, asked, handler);
     pool.keep_or_end(now, peer, ending, log);
+    pool.wake(handler.mark(), handler.confirmed());
 }
 
 /// Reads the next part of the content that a connection sends, and begins to send it. Nothing waits to be sent before.
@@ -311,7 +360,7 @@ where
 
 /// Serves this many connections of a listener by turns, and writes a line to the log as each ends: `connection I: R requests, END`. I
 /// counts the connections from 1 as they are accepted, R the requests whose replies were sent whole, and END is `closed`, `asked`,
-/// `refused` or `turns`, or at a fault `memory`, `read`, `write`, `device` or `gone`.
+/// `refused` or `turns`, or at a fault `memory`, `read`, `write`, `device`, `gone` or `unconfirmed`.
 ///
 /// No peer is waited for. A turn of a connection is one read, or a write of at most 128 KiB, which returns at once. As soon as a whole request was read, or
 /// bytes that are none, they are answered in a stretch of the connection, as `http_serve::Connection::answer` does. The replies are kept
@@ -324,6 +373,11 @@ where
 /// `Waits::preparing_time` if that is longer or neither this round nor the one before had such a turn, and never more than four times that.
 /// Between two rounds new connections are accepted. Until its reply nothing more is read of such a connection, its peer's time doesn't run, and it
 /// isn't ended to make room for others.
+///
+/// A request may rest before it is answered (`Preparation::Rests`): it is prepared again once the handler's mark is another number, or after the time
+/// that it may rest. At most 4,096 requests rest, and half as many as there may be connections, and none while all connections hold too much: others are
+/// answered at once. A reply that was made may wait (`Prepares::hold`): nothing of it is sent, and nothing more of its connection read, before the handler
+/// confirms as much as it waits for. If that takes too long, the connection ends without it, and is logged as `unconfirmed`.
 ///
 /// Between two requests a connection holds no buffers. Otherwise it has at most `http_requests::MAX_REQUEST` bytes of input, and the reply that
 /// its peer is taking; a buffer takes at most twice as much as it has. Of a content that is read in parts one part is in memory.
@@ -395,6 +449,7 @@ where
         alloc,
         listener.max_held(),
         listener.max_reads(),
+        MAX_RESTING.min(listener.max_open() / 2),
         listener.preparing_time(),
     );
     let mut begun = 0;

@@ -18,6 +18,8 @@ pub enum EndFault {
     Device { requests: u64 },
     /// A content wasn't there any more.
     Gone { requests: u64 },
+    /// A reply waited too long for what it needs to be sent.
+    Unconfirmed { requests: u64 },
 }
 
 impl EndFault {

@@ -18,7 +18,8 @@ fn replied_requests(outcome: Result<Served, EndFault>) -> u64
             EndFault::Read { requests }
             | EndFault::Write { requests }
             | EndFault::Device { requests }
-            | EndFault::Gone { requests },
+            | EndFault::Gone { requests }
+            | EndFault::Unconfirmed { requests },
         ) => requests,
     }
 }
@@ -39,6 +40,7 @@ fn result_word(outcome: Result<Served, EndFault>) -> &'static str
         Err(EndFault::Write { .. }) => "write",
         Err(EndFault::Device { .. }) => "device",
         Err(EndFault::Gone { .. }) => "gone",
+        Err(EndFault::Unconfirmed { .. }) => "unconfirmed",
     }
 }
 

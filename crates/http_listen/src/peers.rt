@@ -4,6 +4,7 @@ ghost use Rattle.std.specs.Io.{WritesAtMost};
 ghost use Rattle.std.specs.Io.KnownBytes.{Appends};
 ghost use Rattle.http_listen.specs.Conversations.{Beside, Ends, IsEnded, IsRead, IsSearched, Stands, Steps};
 ghost use Rattle.http_listen.specs.Goes.{Closes};
+ghost use Rattle.http_listen.specs.Holds.{hold_after};
 ghost use Rattle.http_listen.specs.Lines.{line_of};
 ghost use Rattle.http_listen.specs.Marks.{Adds, at_closing};
 ghost use Rattle.http_listen.specs.Talks.{Grows, Moves};
@@ -19,7 +20,7 @@ use crate::rests::{Unsent, once_sent};
 use crate::talks::Talks;
 use crate::turns::Next;
 use http_requests::{FieldSpans, MAX_REQUEST};
-use http_serve::{Answer, Connection, End, Served};
+use http_serve::{Answer, Connection, End, Hold, Moment, Served};
 use std::alloc::{AllocError, Global};
 use std::io::{self, ErrorKind};
 use std::net::{OpenStream, Shutdown};
@@ -94,6 +95,12 @@ pub(crate) struct State {
     pub(crate) ready: Readiness,
     /// The key by which its stream is watched, if it is, and whether that is so for sending too.
     pub(crate) watched: Option<(usize, bool)>,
+    /// When the first step was made of the preparation of the reply to the first bytes of its input.
+    pub(crate) asked: Option<Duration>,
+    /// Until when at most its request rests, in nanoseconds.
+    pub(crate) rests: Option<u64>,
+    /// What its replies wait for before they are sent.
+    pub(crate) hold: Option<Hold>,
 }
 
 /// A connection and its stream, which is never waited for.
@@ -129,6 +136,9 @@ impl<S> Peer<S> {
             since: now,
             ready: Readiness::new(),
             watched: None,
+            asked: None,
+            rests: None,
+            hold: None,
         };
         Peer {
             stream,
@@ -156,6 +166,12 @@ impl<S> Peer<S> {
 
     /// The list that it is to be in, at this key.
     pub(crate) fn list(&self, key: usize) -> List {
+        if self.state.rests.is_some() {
+            return List::Resting;
+        }
+        if self.state.hold.is_some() {
+            return List::Held;
+        }
         let may_turn = if self.sends() {
             self.state.ready.writes
         } else {
@@ -182,7 +198,13 @@ impl<S> Peer<S> {
 
     /// When its peer has no time left, in nanoseconds.
     pub(crate) fn deadline(&self) -> u64 {
+        if let Some(end) = self.state.rests {
+            return end;
+        }
         let mut left = self.pace.left;
+        if let Some(hold) = self.state.hold {
+            left = left.min(nanoseconds_of(hold.longest));
+        }
         if self.state.drops.is_some() {
             left = left.min(LAST_WAIT_SECONDS * 1_000_000_000);
         }
@@ -212,7 +234,9 @@ impl<S> Peer<S> {
 
     /// What it comes to if its peer is waited for no longer.
     pub(crate) fn given_up(&self, why: GivenUp) -> Result<Served, EndFault> {
-        if self.sends() {
+        if self.state.hold.is_some() {
+            Err(EndFault::Unconfirmed { requests: 0 })
+        } else if self.sends() {
             Err(EndFault::Write { requests: 0 })
         } else if matches!(why, GivenUp::Held) {
             Err(EndFault::Memory)
@@ -233,7 +257,8 @@ impl<S> Peer<S> {
 
     /// More bytes are waited for.
     pub(crate) fn begin_read(&mut self, now: Duration)
-        ensures { Stands self.old self.new }
+        ensures stands { Stands self.old self.new }
+        ensures hold { self.new.state.hold ≡ self.old.state.hold }
     {
         self.state.searches = false;
         self.pace = self.pace.reads(self.connection.input_len() == 0);
@@ -242,17 +267,19 @@ impl<S> Peer<S> {
 
     /// Another step is to be made before the first bytes of its input are answered. It is found with them again in its next turn, and
     /// its peer isn't waited for until then.
-    pub(crate) fn put_off(&mut self, now: Duration)
+    pub(crate) fn put_off(&mut self, now: Duration, start: Duration)
         ensures { Stands self.old self.new }
     {
         self.state.searches = true;
         self.state.since = now;
+        self.state.asked = self.state.asked.or(Some(start));
     }
 
     /// Bytes were written that its peer takes in one turn. If more wait, it waits for its peer like those whose streams are full: its stream is watched
     /// anew, and so it is reported again if it takes more already.
     fn end_share(&mut self)
-        ensures { Stands self.old self.new }
+        ensures stands { Stands self.old self.new }
+        ensures hold { self.new.state.hold ≡ self.old.state.hold }
     {
         if self.connection.has_output() && self.state.ready.writes {
             self.state.ready.writes = false;
@@ -260,10 +287,47 @@ impl<S> Peer<S> {
         }
     }
 
-    /// The first bytes of its input were answered in a stretch that came to this.
-    pub(crate) fn answered(&mut self, now: Duration, outcome: Result<Answer, AllocError>)
+    /// The same, but it has no turn before it is woken, for as long at most.
+    pub(crate) fn rest(&mut self, now: Duration, start: Duration, longest: Duration)
         ensures { Stands self.old self.new }
     {
+        self.put_off(now, start);
+        self.state.rests = Some(nanoseconds_of(now.saturating_add(longest)));
+    }
+
+    /// The moment of this time in the preparation of the reply to the first bytes of its input.
+    pub(crate) fn moment(&self, now: Duration) -> Moment {
+        let waited = match self.state.asked {
+            Some(asked) => now.saturating_sub(asked),
+            None => Duration::ZERO,
+        };
+        Moment { now, waited }
+    }
+
+    /// Its replies wait for nothing but its peer, if this is as much as they waited for.
+    pub(crate) fn confirm(&mut self, confirmed: u64)
+        ensures stands { Stands self.old self.new }
+        ensures hold { self.new.state.hold ≡ hold_after confirmed self.old.state.hold }
+    {
+        if let Some(hold) = self.state.hold {
+            if hold.least <= confirmed {
+                self.state.hold = None;
+            }
+        }
+    }
+
+    /// The first bytes of its input were answered in a stretch that came to this. The reply isn't sent before what it waits for.
+    pub(crate) fn answered(
+        &mut self,
+        now: Duration,
+        outcome: Result<Answer, AllocError>,
+        hold: Option<Hold>,
+    )
+        ensures stands { Stands self.old self.new }
+        ensures hold { self.new.state.hold ≡ hold }
+    {
+        self.state.asked = None;
+        self.state.hold = hold;
         let outcome = once_sent(outcome);
         let goes_on = matches!(
             outcome,
@@ -281,7 +345,8 @@ impl<S> Peer<S> {
     /// The replies of its last stretch were sent.
     pub(crate) fn replied(&mut self, now: Duration)
         requires { self.old.connection.output ≡ [] }
-        ensures { Stands self.old self.new }
+        ensures stands { Stands self.old self.new }
+        ensures hold { self.new.state.hold ≡ self.old.state.hold }
     {
         self.connection.clear_output();
         if let Ok(served) = self.state.outcome {
@@ -391,6 +456,8 @@ impl<S: Talks + OpenStream> Peer<S> {
         }
         self.state.drops = Some(MAX_DROPPED);
         self.state.searches = false;
+        self.state.rests = None;
+        self.state.hold = None;
         self.state.unsent = None;
         self.connection.clear_output();
         self.connection.clear_input();
@@ -483,10 +550,12 @@ impl<S: Talks> Peer<S> {
     /// Makes one write of the next bytes that wait, at most this many, and another one if a signal interrupts it. Returns how many may follow them in
     /// this turn: none if the peer didn't take all that were given to it.
     fn send_piece(&mut self, now: Duration, most: usize) -> Result<usize, EndFault>
+        requires { self.old.state.hold ≡ None }
         ensures moves { Moves (S.told self.old.stream) self.old.connection.output [] [] (S.told self.new.stream) self.new.connection.output }
         ensures beside { Beside self.old self.new }
         ensures unsent { self.new.state.unsent ≡ self.old.state.unsent }
         ensures most { length self.old.connection.output ≤ length self.new.connection.output + most }
+        ensures free { self.new.state.hold ≡ None }
         ensures left { IfOk result (λ left. length self.old.connection.output + left ≤ length self.new.connection.output + most) }
     {
         let piece = self.connection.piece();
@@ -510,9 +579,12 @@ impl<S: Talks> Peer<S> {
 
     /// Makes one write of what waits. A content that is lent follows by another one, if the peer took all that comes before it.
     pub(crate) fn send(&mut self, now: Duration) -> Result<(), EndFault>
+        // Nothing waits for more than the peer.
+        requires { self.old.state.hold ≡ None }
         ensures moves { Moves (S.told self.old.stream) self.old.connection.output [] [] (S.told self.new.stream) self.new.connection.output }
         ensures beside { Beside self.old self.new }
         ensures unsent { self.new.state.unsent ≡ self.old.state.unsent }
+        ensures free { self.new.state.hold ≡ None }
         // No peer takes more in a turn, however much waits for it.
         ensures most { length self.old.connection.output ≤ length self.new.connection.output + MAX_WRITE }
     {

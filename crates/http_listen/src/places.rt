@@ -1,6 +1,7 @@
 //! The places of open connections: which may have their turn, and which may be closed for others.
 ghost use Rattle.std.specs.Prelude.{◌≡◌, ◌≢◌, ◌≤◌, ℕ, None, Some, IsSome, IfOk, IfErr, OnErr, MatchOption};
 ghost use Rattle.http_listen.specs.Conversations.{Puts};
+ghost use Rattle.http_listen.specs.LetsGo.{KeepsHolds, LetsGo};
 ghost use Rattle.http_listen.specs.Stays.{AllStand};
 ghost use Rattle.http_listen.specs.Places.{peer_at, taken_out, next_key, KeepsAll, Reports};
 
@@ -22,6 +23,10 @@ pub(crate) enum List {
     Busy,
     /// They have ended, and what their peers still send is dropped.
     Ended,
+    /// Their requests rest until their replies say more.
+    Resting,
+    /// Their replies wait until they may be sent. What the first one waits for is made before what the others do.
+    Held,
 }
 
 /// The keys of the first and the last connection of a list, and how many it has.
@@ -59,6 +64,8 @@ pub struct Places<S> {
     idle: Ends,
     busy: Ends,
     ended: Ends,
+    resting: Ends,
+    waiting: Ends,
     /// How many bytes of requests and replies they hold.
     pub(crate) held: usize,
 }
@@ -75,6 +82,8 @@ impl<S> Places<S> {
             idle: EMPTY,
             busy: EMPTY,
             ended: EMPTY,
+            resting: EMPTY,
+            waiting: EMPTY,
             held: 0,
         }
     }
@@ -109,6 +118,8 @@ impl<S> Places<S> {
             List::Idle => self.idle,
             List::Busy => self.busy,
             List::Ended => self.ended,
+            List::Resting => self.resting,
+            List::Held => self.waiting,
         }
     }
 
@@ -130,6 +141,8 @@ impl<S> Places<S> {
             List::Idle => self.idle = ends,
             List::Busy => self.busy = ends,
             List::Ended => self.ended = ends,
+            List::Resting => self.resting = ends,
+            List::Held => self.waiting = ends,
         }
     }
 
@@ -140,7 +153,14 @@ impl<S> Places<S> {
             .ends(List::Busy)
             .first
             .or(self.ends(List::Unwatched).first);
-        waiting.or(working).or(self.ends(List::Ready).first)
+        let resting = self
+            .ends(List::Resting)
+            .first
+            .or(self.ends(List::Held).first);
+        waiting
+            .or(resting)
+            .or(working)
+            .or(self.ends(List::Ready).first)
     }
 
     /// Sets which connection of a list comes after another one, or after `None` as its first. `None` ends the list.
@@ -321,6 +341,67 @@ impl<S> Places<S> {
         };
         place.peer.state.ready = place.peer.state.ready.changed(change);
         self.move_to_its_list(key);
+    }
+
+    /// Whether the request of the connection at a key rests.
+    pub(crate) fn rests(&self, key: usize) -> bool {
+        match self.places.get(key) {
+            Some(place) => place.peer.state.rests.is_some(),
+            None => false,
+        }
+    }
+
+    /// The connection at a key rests no longer.
+    pub(crate) fn wake(&mut self, key: usize)
+        ensures stands { AllStand (peer_at self.old) (peer_at self.new) }
+        ensures holds { KeepsHolds (peer_at self.old) (peer_at self.new) }
+    {
+        let Some(place) = self.places.get_mut(key) else {
+            return;
+        };
+        place.peer.state.rests = None;
+        self.move_to_its_list(key);
+    }
+
+    /// The replies of the connection at a key wait for nothing but its peer, if this is as much as they waited for.
+    fn confirm(&mut self, key: usize, confirmed: u64)
+        ensures stands { AllStand (peer_at self.old) (peer_at self.new) }
+        ensures lets_go { LetsGo confirmed (peer_at self.old) (peer_at self.new) }
+    {
+        let Some(place) = self.places.get_mut(key) else {
+            return;
+        };
+        place.peer.confirm(confirmed);
+        self.move_to_its_list(key);
+    }
+
+    /// No connection rests any longer.
+    pub(crate) fn wake_resting(&mut self)
+        ensures stands { AllStand (peer_at self.old) (peer_at self.new) }
+        ensures holds { KeepsHolds (peer_at self.old) (peer_at self.new) }
+    {
+        'wakes: for _ in 0..self.ends(List::Resting).count {
+            let Some(key) = self.ends(List::Resting).first else {
+                return;
+            };
+            self.wake(key);
+        }
+    }
+
+    /// Replies that wait for no more than this are sent. They were made in the order of what they wait for.
+    pub(crate) fn release(&mut self, confirmed: u64)
+        ensures stands { AllStand (peer_at self.old) (peer_at self.new) }
+        ensures lets_go { LetsGo confirmed (peer_at self.old) (peer_at self.new) }
+    {
+        'releases: for _ in 0..self.ends(List::Held).count {
+            let Some(key) = self.ends(List::Held).first else {
+                return;
+            };
+            self.confirm(key, confirmed);
+            if self.ends(List::Held).first == Some(key) {
+                return;
+            }
+        }
     }
 
     /// Has a listener watch the stream of the connection at a key for what it waits for. Whether that is done.

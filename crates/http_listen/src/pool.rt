@@ -5,6 +5,8 @@ ghost use Rattle.http_listen.specs.declared.pool.Found.TheVariants.{New};
 ghost use Rattle.http_listen.specs.Found.{IsReady};
 ghost use Rattle.http_listen.specs.Goes.{Goes, Passes, hand_in, hand_of};
 ghost use Rattle.http_listen.specs.Places.{peer_at};
+ghost use Rattle.http_listen.specs.LetsGo.{KeepsHolds, LetsGo};
+ghost use Rattle.http_listen.specs.Stays.{AllStand};
 
 use crate::deadlines::Deadlines;
 use crate::ends::EndFault;
@@ -17,7 +19,7 @@ use crate::talks::Talks;
 use crate::turns::Next;
 use crate::waits::Waits;
 use http_requests::{FieldSpans, NO_FIELDS};
-use http_serve::{Asked, Served, Spare};
+use http_serve::{Asked, Preparation, Served, Spare};
 use std::alloc::Global;
 use std::net::OpenStream;
 use std::time::{Clock, Duration};
@@ -63,6 +65,8 @@ pub(crate) struct Pool<S> {
     max_held: usize,
     /// How many reads each of them may make.
     max_reads: u64,
+    /// How many requests may rest.
+    max_resting: usize,
     /// How long a turn goes on with steps of the preparation of a reply.
     pub(crate) step_time: StepTime,
     /// What each read is made into. It has nothing of an earlier one that anybody reads.
@@ -91,15 +95,19 @@ pub(crate) struct Pool<S> {
     pub(crate) stops: Option<Duration>,
     /// Whether a connection may have ended its replies since then.
     pub(crate) may_stop: bool,
+    /// The handler's mark and what it confirms, as they were last.
+    mark: u64,
+    confirmed: u64,
 }
 
 impl<S> Pool<S> {
-    /// No connection is open. All together may hold this many bytes, each may make this many reads, and a turn goes on this long at least with
-    /// steps of a preparation.
+    /// No connection is open. All together may hold this many bytes, each may make this many reads, this many may rest, and a turn goes on this long
+    /// at least with steps of a preparation.
     pub(crate) fn new(
         alloc: Global,
         max_held: usize,
         max_reads: u64,
+        max_resting: usize,
         preparing_time: Duration,
     ) -> Self
         ensures { (key : ℕ) → peer_at result.places key ≡ None }
@@ -109,6 +117,7 @@ impl<S> Pool<S> {
             places: Places::new(alloc),
             max_held,
             max_reads,
+            max_resting,
             step_time: StepTime::new(preparing_time),
             piece: [0; PIECE],
             fields: NO_FIELDS,
@@ -124,6 +133,8 @@ impl<S> Pool<S> {
             spent: Duration::ZERO,
             stops: None,
             may_stop: false,
+            mark: 0,
+            confirmed: 0,
         }
     }
 
@@ -147,6 +158,51 @@ impl<S> Pool<S> {
     /// Whether the connections hold more than they may.
     pub(crate) fn is_full(&self) -> bool {
         self.places.held > self.max_held
+    }
+
+    /// Whether a connection whose last step came to this has another turn before it is answered. No more requests rest than may, and none while all
+    /// connections hold too much.
+    pub(crate) fn puts_off(&self, prepared: Preparation) -> bool {
+        match prepared {
+            Preparation::Ready => false,
+            Preparation::GoesOn | Preparation::Waits => true,
+            Preparation::Rests(_) => {
+                self.places.ends(List::Resting).count < self.max_resting && !self.is_full()
+            }
+        }
+    }
+
+    /// Wakes the connections that rest if the handler's mark is another one.
+    fn wake_marked(&mut self, mark: u64)
+        ensures stands { AllStand (peer_at self.old.places) (peer_at self.new.places) }
+        ensures holds { KeepsHolds (peer_at self.old.places) (peer_at self.new.places) }
+    {
+        if mark == self.mark {
+            return;
+        }
+        self.mark = mark;
+        self.places.wake_resting();
+    }
+
+    /// Has the replies sent that wait for no more than this, if it is another number.
+    fn release(&mut self, confirmed: u64)
+        ensures stands { AllStand (peer_at self.old.places) (peer_at self.new.places) }
+        ensures lets_go { LetsGo confirmed (peer_at self.old.places) (peer_at self.new.places) }
+    {
+        if confirmed == self.confirmed {
+            return;
+        }
+        self.confirmed = confirmed;
+        self.places.release(confirmed);
+    }
+
+    /// Both, once something was done.
+    pub(crate) fn wake(&mut self, mark: u64, confirmed: u64)
+        ensures stands { AllStand (peer_at self.old.places) (peer_at self.new.places) }
+        ensures lets_go { LetsGo confirmed (peer_at self.old.places) (peer_at self.new.places) }
+    {
+        self.wake_marked(mark);
+        self.release(confirmed);
     }
 }
 

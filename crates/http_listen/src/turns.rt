@@ -1,5 +1,5 @@
 //! The turn of a connection: a read, or a write.
-ghost use Rattle.std.specs.Prelude.{◌≡◌, [], None, Some, Err, IfOk, IfErr, OnErr};
+ghost use Rattle.std.specs.Prelude.{◌≡◌, [], None, Some, Err, IfOk, IfErr, IsSome, OnErr};
 ghost use Rattle.http_listen.specs.Conversations.{Beside, Stands, IsSearched, Turned};
 ghost use Rattle.http_listen.specs.Talks.{Moves};
 
@@ -28,10 +28,16 @@ impl<S: Talks> Peer<S> {
     /// Sends what the stream can take of the replies. If it has taken all, the connection goes on, or ends. If there is a rest to be read,
     /// it waits until the stream can take more. Returns what the connection came to, if it ends.
     pub(crate) fn send_replies(&mut self, now: Duration) -> Ending
+        // Nothing is sent of replies that wait for more than their peer.
+        ensures waits { IsSome self.old.state.hold → (self.new ≡ self.old) × (result ≡ None) }
+        ensures hold { self.new.state.hold ≡ self.old.state.hold }
         ensures moves { Moves (S.told self.old.stream) self.old.connection.output [] [] (S.told self.new.stream) self.new.connection.output }
         ensures beside { Beside self.old self.new }
         ensures unsent { self.new.state.unsent ≡ self.old.state.unsent }
     {
+        if self.state.hold.is_some() {
+            return None;
+        }
         if self.connection.has_output() {
             if let Err(fault) = self.send(now) {
                 return Some(Err(fault));

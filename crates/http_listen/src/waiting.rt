@@ -65,7 +65,19 @@ impl<S: Talks + OpenStream + Drop> Pool<S> {
         }
     }
 
-    /// Ends the connections whose peers have no time left and which may not have their turn. All are looked at.
+    /// The time of the connection at a key is over: its request rests no longer, or the connection ends.
+    fn late_at<W: Logs<S>>(&mut self, now: Duration, key: usize, log: &mut W)
+        ensures goes { Goes S.told (W.marks log.old) (peer_at self.old.places) (W.marks log.new) (peer_at self.new.places) }
+    {
+        if self.places.rests(key) {
+            self.places.wake(key);
+            return;
+        }
+        self.end_at(now, key, GivenUp::Late, log);
+    }
+
+    /// Ends the connections whose peers have no time left and which may not have their turn. Those whose requests rest for as long as they may have
+    /// their turn. All are looked at.
     fn end_late<W: Logs<S>>(&mut self, now: Duration, log: &mut W)
         ensures goes { Goes S.told (W.marks log.old) (peer_at self.old.places) (W.marks log.new) (peer_at self.new.places) }
     {
@@ -77,7 +89,7 @@ impl<S: Talks + OpenStream + Drop> Pool<S> {
                 _ => continue,
             };
             if deadline <= time {
-                self.end_at(now, key, GivenUp::Late, log);
+                self.late_at(now, key, log);
             } else {
                 self.deadlines.note(deadline);
             }
@@ -125,7 +137,7 @@ impl<S: Talks + OpenStream + Drop> Pool<S> {
     }
 
     /// Ends connections while all hold more bytes than they may: each time the one that has waited longest for its peer. If none waits, nothing
-    /// is done.
+    /// is done. Requests that rest are answered.
     pub(crate) fn give_space<L: Waits<Stream = S>, W: Logs<S>>(
         &mut self,
         now: Duration,
@@ -137,6 +149,8 @@ impl<S: Talks + OpenStream + Drop> Pool<S> {
         if !self.is_full() {
             return;
         }
+        // Requests that rest hold memory: they are answered instead.
+        self.places.wake_resting();
         // Those that wait are in the list of those that do, in this order.
         self.watch_all(now, listener, log);
         'ends: for _ in 0..self.places.ends(List::Busy).count {

@@ -1,5 +1,5 @@
 -- The requests in the bytes of a connection.
-use Rattle.std.specs.Prelude.{◌≡◌, ℕ, ◌<◌, ◌≤◌, List, [], ◌∷◌, ◌++◌, Bool, true, false, ◌==◌, ◌||◌, length, map, take, Option, None, Some}
+use Rattle.std.specs.Prelude.{◌≡◌, ℕ, ◌<◌, ◌≤◌, List, [], ◌∷◌, ◌++◌, Bool, true, false, ◌==◌, ◌||◌, ◌+◌, length, map, take, drop, Option, None, Some}
 use Rattle.std.specs.Prelude.{Result, Ok, Err, ⊤, nat_eq, codes}
 use Rattle.std.specs.Cmp.Lexicographic.{pointwise}
 use Rattle.std.specs.List.{before_first}
@@ -48,6 +48,7 @@ has_head_method (Some head) = is_head head.method
 pub record RequestView : Type 0 where
   pub method : List ℕ
   pub path : List ℕ
+  pub query : List ℕ
   -- the names and the values of its header fields, in order
   pub fields : List NamedValue
   pub body : List ℕ
@@ -62,10 +63,15 @@ question_mark = 63
 abbrev pub path_of : List ℕ → List ℕ
 path_of target = before_first (λ byte. byte == question_mark) target
 
+-- a request's query: what follows the first question mark of its target
+abbrev pub query_of : List ℕ → List ℕ
+query_of target = drop (length (path_of target) + 1) target
+
 abbrev pub request_view : Request → RequestView
 request_view request = record {
   method = request.head.method;
   path = path_of request.head.target;
+  query = query_of request.head.target;
   fields = fields_of request.head;
   body = request.body;
   close = asks_to_close request.head;
@@ -80,6 +86,7 @@ abbrev pub request_view_at : List ℕ → List HeaderSpan → Frame → RequestV
 request_view_at bytes spans frame = record {
   method = span_bytes bytes frame.method;
   path = path_of (span_bytes bytes frame.target);
+  query = query_of (span_bytes bytes frame.target);
   fields = fields_at bytes spans frame;
   body = span_bytes bytes frame.body;
   close = frame.close;

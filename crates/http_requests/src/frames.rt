@@ -4,7 +4,7 @@ ghost use Rattle.httparse.specs.Spans.{IsRequestWithin, IsRequestOf, IsHeaderWit
 ghost use Rattle.http_requests.specs.Fields.{says_close};
 ghost use Rattle.http_requests.specs.declared.frames.TheConstants.{MAX_HEAD, MAX_FIELDS};
 ghost use Rattle.http_requests.specs.Frame.{IsNext};
-ghost use Rattle.http_requests.specs.Requests.{is_head, path_of};
+ghost use Rattle.http_requests.specs.Requests.{is_head, path_of, query_of};
 
 use crate::fields::{MAX_BODY, framing, position_or_len, says_close};
 use crate::refusals::{NO_HEAD, Refusal, Rejection};
@@ -105,6 +105,17 @@ pub fn path_of(target: &[u8]) -> &[u8]
     ensures { result.now ≡ path_of target.now }
 {
     &target[..position_or_len(target, b'?')]
+}
+
+/// A request's query: what follows the first question mark of its target.
+pub fn query_of(target: &[u8]) -> &[u8]
+    ensures { result.now ≡ query_of target.now }
+{
+    let path = path_of(target);
+    if path.len() >= target.len() {
+        return &target[target.len()..];
+    }
+    &target[path.len() + 1..]
 }
 
 /// What bytes begin with, given their head.

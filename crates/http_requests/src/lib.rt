@@ -12,7 +12,7 @@ mod refusals;
 mod searches;
 
 pub use frames::{
-    FieldSpans, Frame, MAX_REQUEST, Missing, NO_BYTES, NO_FIELDS, Next, is_head, path_of,
+    FieldSpans, Frame, MAX_REQUEST, Missing, NO_BYTES, NO_FIELDS, Next, is_head, path_of, query_of,
 };
 pub use headers::Fields;
 pub use inputs::{Asked, Input, NOTHING_ASKED, ReadFault};

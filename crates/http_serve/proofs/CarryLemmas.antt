@@ -6,7 +6,7 @@ use Rattle.std.specs.Io.KnownBytes.{Appends}
 use Rattle.httparse.specs.Grammar.{RequestHead}
 use Rattle.http_requests.specs.declared.refusals.Refusal.{Refusal}
 use Rattle.http_requests.specs.Requests.{Request, IsHead, IsRequest, Begins, Ending, going, closed, asked, refused, EndsAs, IsRefused, asks_to_close}
-use Rattle.http_requests.specs.Requests.{RequestView, request_view, request_view_at, path_of, is_head}
+use Rattle.http_requests.specs.Requests.{RequestView, request_view, request_view_at, path_of, query_of, is_head}
 use Rattle.httparse.specs.declared.spans.HeaderSpan.{HeaderSpan}
 use Rattle.http_requests.specs.declared.frames.Frame.{Frame}
 use Rattle.http_requests.specs.Frame.{IsFrameOf}
@@ -65,6 +65,7 @@ pub framed_view : (input : List ℕ) (spans : List HeaderSpan) (frame : Frame) (
 framed_view input spans frame request is = λ i. record {
   method = is.method i;
   path = path_of (is.target i);
+  query = query_of (is.target i);
   fields = is.fields i;
   body = is.body i;
   close = is.close i;

@@ -9,3 +9,4 @@ pub mod Served
 pub mod Steps
 pub mod Tags
 pub mod Told
+pub mod Waits

@@ -10,8 +10,8 @@ ghost use Rattle.http_serve.specs.declared.replies.TheConstants.{MAX_REPLY_HEAD}
 
 use crate::outputs::Output;
 use crate::refusals::refusal_reply;
-use crate::{Content, Handler, Preparation, Prepares, Reply, Request};
-use http_requests::{FieldSpans, Fields, Frame, Rejection, is_head, path_of};
+use crate::{Content, Handler, Moment, Preparation, Prepares, Reply, Request};
+use http_requests::{FieldSpans, Fields, Frame, Rejection, is_head, path_of, query_of};
 
 /// What of a reply's content isn't to be sent yet: it has `length` bytes, and these are those from the byte `from` on.
 #[derive(Clone, Copy, Debug, PartialEq, Eq)]
@@ -60,6 +60,7 @@ fn request_at<'a>(bytes: &'a [u8], fields: &'a FieldSpans, frame: &Frame) -> Req
     Request {
         method: frame.method.of(bytes),
         path: path_of(frame.target.of(bytes)),
+        query: query_of(frame.target.of(bytes)),
         fields: Fields::new(bytes, &fields[..frame.fields]),
         body: frame.body.of(bytes),
         close: frame.close,
@@ -70,6 +71,7 @@ fn request_at<'a>(bytes: &'a [u8], fields: &'a FieldSpans, frame: &Frame) -> Req
 pub(crate) fn prepare_at<H: Prepares>(
     handler: &mut H,
     connection: u64,
+    moment: Moment,
     bytes: &[u8],
     fields: &FieldSpans,
     frame: &Frame,
@@ -81,7 +83,7 @@ pub(crate) fn prepare_at<H: Prepares>(
     requires few { frame.now.fields ≤ length fields.now }
     ensures { H.prepares handler.old connection (request_view_at bytes.now fields.now frame.now) handler.new }
 {
-    handler.prepare(connection, &request_at(bytes, fields, frame))
+    handler.prepare(connection, moment, &request_at(bytes, fields, frame))
 }
 
 /// Asks a handler for the reply to the request at `frame` in `bytes`, whose header fields are at these spans.

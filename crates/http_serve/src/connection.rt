@@ -16,7 +16,7 @@ ghost use Rattle.http_serve.specs.Steps.{IsFinished};
 use crate::answers::{Rest, prepare_at, refuse_in, reply_in};
 use crate::outputs::{Output, Spare};
 use crate::replies::REPLY_SPACE;
-use crate::{Downloads, Handler, Preparation, Prepares, RestFault, Ticket};
+use crate::{Downloads, Handler, Moment, Preparation, Prepares, RestFault, Ticket};
 use http_requests::{Asked, FieldSpans, Frame, Input, MAX_REQUEST, Next, ReadFault, Rejection};
 use std::alloc::{AllocError, Global};
 use std::fmt;
@@ -262,6 +262,7 @@ impl Connection {
         &self,
         handler: &mut H,
         number: u64,
+        moment: Moment,
         fields: &FieldSpans,
         frame: &Frame,
     ) -> Preparation
@@ -269,7 +270,7 @@ impl Connection {
         // It is one whole request.
         ensures { PreparesNext H.prepares number (take frame.now.body.end self.now.input) handler.old handler.new }
     {
-        prepare_at(handler, number, self.bytes(), fields, frame)
+        prepare_at(handler, number, moment, self.bytes(), fields, frame)
     }
 
     /// Answers what was found at the front of the input, whose header fields are at these spans, as `serve_with` answers an input of these bytes

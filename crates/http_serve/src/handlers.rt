@@ -1,15 +1,18 @@
 //! The handler of a connection's requests.
-ghost use Rattle.std.specs.Prelude.{◌≡◌, ◌≤◌, ◌+◌, ℕ, List, Result, length, OnOk, OnErr};
+ghost use Rattle.std.specs.Prelude.{◌≡◌, ◌≤◌, ◌+◌, ℕ, List, Option, Result, length, OnOk, OnErr};
 ghost use Rattle.http_serve.specs.declared.handlers.TheConstants.{PART_SIZE};
+ghost use Rattle.http_serve.specs.declared.handlers.Hold.{Hold};
 ghost use Rattle.http_serve.specs.declared.handlers.RestFault.{RestFault};
 ghost use Rattle.http_serve.specs.declared.handlers.Ticket.{Ticket};
 ghost use Rattle.http_serve.specs.Parts.{rest_outcome};
+ghost use Rattle.http_serve.specs.Waits.{IsRest};
 ghost use Rattle.http_requests.specs.Requests.{RequestView};
 ghost use Rattle.http_serve.specs.Reply.{ReplyView, IsReply, InParts, HasShortWords, head_view, with_part};
 
 use crate::Reply;
 use http_requests::Fields;
 use std::marker::Model;
+use std::time::Duration;
 use thiserror::Error;
 
 /// Maximum number of content bytes read and written at once.
@@ -27,6 +30,8 @@ pub struct Request<'a> {
     pub method: &'a [u8],
     /// The path of the target, without its query.
     pub path: &'a [u8],
+    /// The query of the target: what follows its first question mark.
+    pub query: &'a [u8],
     /// The header fields.
     pub fields: Fields<'a>,
     /// The body, of at most 65,536 bytes.
@@ -43,6 +48,7 @@ impl<'a> Model for Request<'a> {
     ghost view = { λ r. record {
       method = r.method.now;
       path = r.path.now;
+      query = r.query.now;
       fields = r.fields;
       body = r.body.now;
       close = r.close;
@@ -136,6 +142,26 @@ pub enum Preparation {
     GoesOn,
     /// Nothing can be done before other connections had their turns.
     Waits,
+    /// The reply has nothing to say before `Prepares::mark` is another number. The request may rest until then, for as long at most.
+    Rests(Duration),
+}
+
+/// What a reply that was made waits for before it is sent.
+#[derive(Clone, Copy, Debug)]
+pub struct Hold {
+    /// `Prepares::confirmed` has to be at least this.
+    pub least: u64,
+    /// The longest time that it waits. Then the connection ends without the reply.
+    pub longest: Duration,
+}
+
+/// When a step of a preparation is made.
+#[derive(Clone, Copy, Debug)]
+pub struct Moment {
+    /// The time of the clock.
+    pub now: Duration,
+    /// How long ago the first step of this preparation was made.
+    pub waited: Duration,
 }
 
 /// A handler that may prepare a reply in steps, between which other requests are answered. A preparation is that of one request of one connection: it
@@ -144,9 +170,33 @@ pub trait Prepares: Downloads {
     /// In the first state a step of the preparation of the reply to a request of a connection was made, and the second state follows.
     ghost prepares: { Self → (connection : ℕ) → RequestView → Self → Type 0 };
 
+    /// In this state the reply to a request would have nothing to say yet.
+    ghost rests: { Self → RequestView → Type 0 };
+
+    /// What the last reply waits for before it is sent.
+    ghost holds: { Self → Option Hold };
+
+    /// How far replies that wait are confirmed.
+    ghost confirms: { Self → ℕ };
+
     /// Makes the next step of the preparation of the reply to a request, which is to be answered next on the connection of this number. After `GoesOn` it
-    /// may be asked again in the same turn of the connection, after `Waits` only in a later one. Connections that it is asked for have their turns one
-    /// after the other; one that ends isn't asked for again.
-    fn prepare(&mut self, connection: u64, request: &Request<'_>) -> Preparation
-        ensures { prepares self.old connection request.now self.new };
+    /// may be asked again in the same turn of the connection, after `Waits` only in a later one, and after `Rests` in one that comes once the mark is
+    /// another number or the time is over, or else the request is answered. Connections that it is asked for have their turns one after the other; one
+    /// that ends isn't asked for again.
+    fn prepare(&mut self, connection: u64, moment: Moment, request: &Request<'_>) -> Preparation
+        ensures prepared { prepares self.old connection request.now self.new }
+        ensures rests { IsRest result → rests self.new request.now };
+
+    /// A number that changes whenever a reply that rests may have something to say.
+    fn mark(&self) -> u64 {
+        0
+    }
+
+    /// What the last reply waits for before it is sent.
+    fn hold(&self) -> Option<Hold>
+        ensures { result ≡ holds self.now };
+
+    /// How far replies that wait are confirmed.
+    fn confirmed(&self) -> u64
+        ensures { result ≡ confirms self.now };
 }

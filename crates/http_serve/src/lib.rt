@@ -16,7 +16,8 @@ mod writes;
 pub use answers::Rest;
 pub use connection::{Answer, Connection, End, MAX_READS, READ_SPACE, ServeFault, Served};
 pub use handlers::{
-    ContentFault, Downloads, Handler, PART_SIZE, Preparation, Prepares, Request, RestFault, Ticket,
+    ContentFault, Downloads, Handler, Hold, Moment, PART_SIZE, Preparation, Prepares, Request,
+    RestFault, Ticket,
 };
 pub use http_requests::{Asked, Fields, NOTHING_ASKED};
 pub use http_values::Status;

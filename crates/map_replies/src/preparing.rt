@@ -25,7 +25,8 @@ use crate::service::MapReplies;
 use crate::turns::Turns;
 use hilbert_id::TileAt;
 use http_serve::{
-    ContentFault, Downloads, Handler, Preparation, Prepares, Reply, Request, RestFault, Ticket,
+    ContentFault, Downloads, Handler, Hold, Moment, Preparation, Prepares, Reply, Request,
+    RestFault, Ticket,
 };
 use sector_disk::Sectors;
 use std::alloc::AllocError;
@@ -619,11 +620,30 @@ impl<D: Sectors + Drop> Prepares for PreparingReplies<D> {
 
     ghost prepares = { PreparesFor D.sectors D.honest D.history D.faults };
 
-    fn prepare(&mut self, connection: u64, request: &Request<'_>) -> Preparation {
+    ghost rests = { λ _ _. Unit {0} };
+
+    ghost holds = { λ _. None };
+
+    ghost confirms = { λ _. 0 };
+
+    fn prepare(
+        &mut self,
+        connection: u64,
+        _moment: Moment,
+        request: &Request<'_>,
+    ) -> Preparation {
         let target = self.replies.target(request);
         if self.is_to_publish(target, request) {
             return self.prepare_call(connection, target, request.method);
         }
         self.prepare_other(connection, target, request.method)
+    }
+
+    fn hold(&self) -> Option<Hold> {
+        None
+    }
+
+    fn confirmed(&self) -> u64 {
+        0
     }
 }

@@ -7,7 +7,7 @@ use std::alloc::Global;
 /// The number of a connection, how many replies it had before its last stretch, what that came to, and its line.
 type Row = (u64, u64, Result<Served, EndFault>, &'static str);
 
-static ROWS: [Row; 9] = [
+static ROWS: [Row; 10] = [
     (
         1,
         0,
@@ -73,6 +73,12 @@ static ROWS: [Row; 9] = [
         7,
         Err(EndFault::Gone { requests: 0 }),
         "connection 6: 7 requests, gone\n",
+    ),
+    (
+        7,
+        1,
+        Err(EndFault::Unconfirmed { requests: 0 }),
+        "connection 7: 1 requests, unconfirmed\n",
     ),
 ];
 

@@ -4,17 +4,22 @@ ghost use Rattle.http_serve.specs.Reply.{IsWhole};
 use crate::wanted::same;
 use http_listen::{Log, SystemListener, serve_on};
 use http_serve::{
-    Content, ContentFault, Downloads, Handler, Preparation, Prepares, Reply, Request, RestFault,
-    Status, Ticket,
+    Content, ContentFault, Downloads, Handler, Hold, Moment, Preparation, Prepares, Reply, Request,
+    RestFault, Status, Ticket,
 };
 use std::io::{Read, Write};
 use std::net::{Ipv4Addr, Shutdown, SocketAddr, TcpListener, TcpStream};
+use std::time::Duration;
 
 const GET: &str = "GET / HTTP/1.1\r\nhost: a\r\n\r\n";
 
 const POST: &str = "POST / HTTP/1.1\r\nhost: a\r\ncontent-length: 0\r\n\r\n";
 
 const PUT: &str = "PUT / HTTP/1.1\r\nhost: a\r\ncontent-length: 0\r\n\r\n";
+
+const DELETE: &str = "DELETE / HTTP/1.1\r\nhost: a\r\ncontent-length: 0\r\n\r\n";
+
+const PATCH: &str = "PATCH / HTTP/1.1\r\nhost: a\r\ncontent-length: 0\r\n\r\n";
 
 const TWO_GETS: &str = "GET / HTTP/1.1\r\nhost: a\r\n\r\nGET / HTTP/1.1\r\nhost: a\r\n\r\n";
 
@@ -45,7 +50,7 @@ struct Row {
     log: &'static str,
 }
 
-static ROWS: [Row; 5] = [
+static ROWS: [Row; 7] = [
     Row {
         name: "a_peer_reads_its_replies",
         asks_again: false,
@@ -90,6 +95,20 @@ static ROWS: [Row; 5] = [
         peers: &[(PUT, SECOND), (GET, FIRST)],
         log: "connection 2: 1 requests, closed\nconnection 1: 1 requests, closed\n",
     },
+    // The first reply is made and held until there is another one, which is sent before it.
+    Row {
+        name: "a_reply_that_is_held_is_sent_once_it_is_confirmed",
+        asks_again: false,
+        peers: &[(DELETE, FIRST), (GET, SECOND)],
+        log: "connection 2: 1 requests, closed\nconnection 1: 1 requests, closed\n",
+    },
+    // The first request rests for an hour at most, and is answered as soon as the mark is another one.
+    Row {
+        name: "a_request_that_rests_is_answered_once_there_is_something",
+        asks_again: false,
+        peers: &[(PATCH, SECOND), (GET, FIRST)],
+        log: "connection 2: 1 requests, closed\nconnection 1: 1 requests, closed\n",
+    },
 ];
 
 /// The ticket of handlers whose contents are whole.
@@ -101,11 +120,13 @@ const NO_TICKET: Ticket = Ticket {
 };
 
 /// Answers with how many answers there were before. Has a peer ask once more and end where the second request is answered, if it is given one.
-/// A POST that comes first is prepared until another request was answered, which counts as an answer. The first PUT waits for others once.
+/// A POST that comes first is prepared until another request was answered, which counts as an answer. The first PUT waits for others once. A PATCH
+/// rests until there is an answer, and the reply to a DELETE is held until there is another one.
 #[derive(Clone, Copy)]
 struct Counter<'a> {
     answers: u64,
     has_waited: bool,
+    held: Option<Hold>,
     asker: Option<&'a TcpStream>,
 }
 
@@ -125,6 +146,15 @@ fn number_of(before: u64) -> &'static [u8] {
     }
 }
 
+/// What the reply to a request waits for, if it is a DELETE.
+fn held_for(method: &[u8], least: u64) -> Option<Hold> {
+    if method != b"DELETE".as_slice() {
+        return None;
+    }
+    let longest = Duration::from_secs(3_600);
+    Some(Hold { least, longest })
+}
+
 fn reply_of(before: u64) -> Reply
     ensures { IsWhole result }
 {
@@ -141,8 +171,9 @@ impl Handler for Counter<'_> {
 
     ghost size = { λ _. 0 };
 
-    fn answer(&mut self, _request: &Request<'_>) -> Reply {
+    fn answer(&mut self, request: &Request<'_>) -> Reply {
         let before = self.answers;
+        self.held = held_for(request.method, before.saturating_add(2));
         if let (1, Some(peer)) = (before, self.asker) {
             sends(peer, GET, true);
         }
@@ -177,7 +208,16 @@ impl Downloads for Counter<'_> {
 impl Prepares for Counter<'_> {
     ghost prepares = { λ _ _ _ _. Unit {0} };
 
-    fn prepare(&mut self, _connection: u64, request: &Request<'_>) -> Preparation {
+    ghost rests = { λ _ _. Unit {0} };
+
+    ghost holds = { λ s. s.held };
+
+    ghost confirms = { λ s. s.answers };
+
+    fn prepare(&mut self, _connection: u64, _moment: Moment, request: &Request<'_>) -> Preparation {
+        if request.method == b"PATCH".as_slice() && self.answers == 0 {
+            return Preparation::Rests(Duration::from_secs(3_600));
+        }
         if request.method == b"PUT".as_slice() && !self.has_waited {
             self.has_waited = true;
             return Preparation::Waits;
@@ -187,6 +227,18 @@ impl Prepares for Counter<'_> {
         }
         self.answers = 1;
         Preparation::GoesOn
+    }
+
+    fn mark(&self) -> u64 {
+        self.answers
+    }
+
+    fn hold(&self) -> Option<Hold> {
+        self.held
+    }
+
+    fn confirmed(&self) -> u64 {
+        self.answers
     }
 }
 
@@ -206,6 +258,7 @@ fn serves_at(
     let mut handler = Counter {
         answers: 0,
         has_waited: false,
+        held: None,
         asker,
     };
     let count = row.peers.len() as u64;

@@ -5,6 +5,7 @@ use Rattle.http_serve.specs.Connections.{ConnectionView}
 use Rattle.http_listen.specs.Conversations.{answered}
 use Rattle.http_listen.specs.Talks.{Moves}
 use Rattle.http_listen.proofs.AskedLemmas.{asked_one}
+use Rattle.http_listen.proofs.HoldLemmas.{waits_either}
 use Rattle.http_listen.proofs.StepLemmas.{steps_answered}
 use Rattle.http_listen.proofs.connections.answer_front.Goals as goal
 
@@ -16,7 +17,7 @@ returns-clause-acts g c =
     let new = c.send_replies-ending.new.self in
     let outcome = c.serve_front-outcome.result in
     let made = c.serve_front-outcome.ensures in
-    let stands = c.answered.ensures in
+    let stands = c.answered.ensures.stands in
     let sent = c.send_replies-ending.ensures in
     let ticket = g.H.Downloads.ticket_of c.serve_front-outcome.new.handler in
     let then : Moves (told front.stream) front.connection.output [] [] (told new.stream) new.connection.output =
@@ -29,3 +30,15 @@ returns-clause-acts g c =
           (ap is_some (sent.beside.drops ∙ stands.drops ∙ ap (λ (s : State). s.drops) made.state))
           (c.requires.whole, sent.unsent ∙ stands.unsent ∙ made.unsent),
     )
+
+pub returns-clause-waits : goal.returns-clause-waits
+returns-clause-waits g c =
+    let outcome = c.serve_front-outcome.result in
+    let handler = c.serve_front-outcome.new.handler in
+    let sent = c.send_replies-ending.ensures in
+    let answered = c.answered.ensures in
+    let same = sent.hold ∙ answered.hold in
+    waits_either g.H.Handler.replies g.H.Prepares.holds outcome c.args.asked.found c.args.handler.now handler c.send_replies-ending.new.self.state.hold _
+    c.serve_front-outcome.ensures.comes
+    (rw (same) (c.hold_after_answer-hold.ensures.ok))
+    (λ some. ap (λ p. p.stream) (sent.waits (rw (← sent.hold) some)).0 ∙ answered.stands.stream ∙ c.serve_front-outcome.ensures.stream)

@@ -12,6 +12,11 @@ returns-in-Waits g c =
     let made = c.steps.invariant in
     (suc made.0, step_more _ made.0 _ _ _ made.1 c.prepare.ensures)
 
+pub returns-in-Rests : goal.returns-in-Rests
+returns-in-Rests g c =
+    let made = c.steps.invariant in
+    (suc made.0, step_more _ made.0 _ _ _ made.1 c.prepare.ensures)
+
 pub returns-then-ge : goal.returns-then-ge
 returns-then-ge g c =
     let made = c.steps.invariant in
