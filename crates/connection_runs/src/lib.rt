@@ -11,6 +11,7 @@
 //! | `again from N`, `again lost N`, `again made N` | the same, and lets calls of the disk fail, counted from the opening on: |
 //! | | each from the N-th on, the N-th before it is made, the N-th after |
 //! | `admin`, `admin from N` and so on | as `again`, and serves the paths under `/admin/` too |
+//! | `standby`, `standby from N` and so on | as `admin`, where edits need a standby: `serve` alone serves that |
 //! | `tags N`, `tags` | what is opened from now on has entity tags, of which those of tiles begin with N; it has none |
 //! | `writer SIZE ROOM fails` | from now on the writer takes SIZE bytes a call at most and ROOM bytes of a connection, and then fails |
 //! | `writer SIZE ROOM full` | the same, but then it takes nothing |
@@ -43,7 +44,7 @@ mod texts;
 
 use http_serve::MAX_READS;
 use lines::{Line, narrowness_in};
-use peers::{Gathered, OfPeer, gather, room_in, serve_peers};
+use peers::{Gathered, OfPeer, Serving, gather, room_in, serve_peers};
 use script_bytes::{Answer, parted};
 use script_disks::{ANY, WIDE, asked};
 use sector_disk::MemoryDisk;
@@ -105,6 +106,7 @@ fn connect(alloc: Global, trial: &mut Trial, open: bool, line: &str, answer: &mu
         match &mut trial.stand {
             Stand::Open(map) => talks(alloc, map, sizes, given, trial.bounds, answer),
             Stand::Closed(_) => answer.say("closed"),
+            Stand::Needing(_) => answer.say("no listener"),
         }
     } else {
         answer.say("no bytes");
@@ -117,7 +119,10 @@ fn listen(alloc: Global, trial: &mut Trial, room: &str, answer: &mut Answer) {
         return answer.reject();
     };
     match &mut trial.stand {
-        Stand::Open(map) => serve_peers(alloc, map, &trial.gathered, room, answer),
+        Stand::Open(map) => { serve_peers(alloc, Serving::Map(map), &trial.gathered, room, answer) }
+        Stand::Needing(map) => {
+            serve_peers(alloc, Serving::Needing(map), &trial.gathered, room, answer)
+        }
         Stand::Closed(_) => answer.say("closed"),
     }
     trial.gathered.clear();
@@ -162,7 +167,7 @@ enum Asks {
 }
 
 /// The words of lines, with how many numbers follow them and what they ask for.
-static LINES: [(&str, usize, Asks); 23] = [
+static LINES: [(&str, usize, Asks); 24] = [
     ("tags", 0, Asks::NoTags),
     ("tags", 1, Asks::Tags),
     ("disk", 1, Asks::Stand(OfStand::Begin)),
@@ -172,6 +177,7 @@ static LINES: [(&str, usize, Asks); 23] = [
     ("sector", ANY, Asks::Stand(OfStand::Sector)),
     ("again", ANY, Asks::Stand(OfStand::Again)),
     ("admin", ANY, Asks::Stand(OfStand::Admin)),
+    ("standby", ANY, Asks::Stand(OfStand::Standby)),
     ("peer", ANY, Asks::Peer(OfPeer::Comes)),
     ("sends", ANY, Asks::Peer(OfPeer::Sends)),
     ("ends", 1, Asks::Peer(OfPeer::Ends)),

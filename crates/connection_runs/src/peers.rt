@@ -9,7 +9,7 @@ mod serving;
 pub(crate) use gathered::{Gathered, Room};
 use http_listen::{Change, Talks};
 pub(crate) use lines::{OfPeer, gather, room_in};
-pub(crate) use serving::serve_peers;
+pub(crate) use serving::{Serving, serve_peers};
 use std::alloc::{AllocError, Global};
 use std::cell::{Cell, RefCell};
 use std::io::{self, ErrorKind};

@@ -1,7 +1,7 @@
 //! A disk, and what answers over it while it is open.
 use super::lines::{Failing, Line, NONE, failing_in};
 use generations::{FIRST_VERSION, StoreFault, format_version};
-use map_replies::{PreparingReplies, Settings};
+use map_replies::{ConfirmedReplies, MapReplies, PreparingReplies, Settings};
 use map_server::{fresh_service, opened_service};
 use script_bytes::Answer;
 use script_disks::pair_in;
@@ -11,18 +11,42 @@ use std::mem;
 use tile_routes::Access;
 use tile_service::Service;
 
+/// A disk of which calls may fail.
+type Disk = FaultyDisk<MemoryDisk>;
+
 /// What answers.
-pub(crate) type Map = PreparingReplies<FaultyDisk<MemoryDisk>>;
+pub(crate) type Map = PreparingReplies<Disk>;
+
+/// What answers where edits need a standby.
+pub(crate) type NeedingMap = ConfirmedReplies<Disk>;
 
 /// A disk, or what answers over it. It ends by `end` alone.
 pub(crate) enum Stand {
     Closed(MemoryDisk),
     Open(Map),
+    Needing(NeedingMap),
+}
+
+/// How a disk is opened.
+#[derive(Clone, Copy)]
+struct Way {
+    settings: Settings,
+    needs_standby: bool,
 }
 
 /// The disk below.
-fn disk_of(map: Map) -> MemoryDisk {
-    map.into_replies().into_service().into_disk().into_disk()
+fn disk_of(replies: MapReplies<Disk>) -> MemoryDisk {
+    replies.into_service().into_disk().into_disk()
+}
+
+/// What answers over these replies.
+fn opened(replies: MapReplies<Disk>, needs_standby: bool) -> Stand {
+    let map = PreparingReplies::new(replies);
+    if needs_standby {
+        Stand::Needing(ConfirmedReplies::new(map))
+    } else {
+        Stand::Open(map)
+    }
 }
 
 impl Stand {
@@ -30,7 +54,8 @@ impl Stand {
     pub(crate) fn end(self) {
         drop(match self {
             Stand::Closed(disk) => disk,
-            Stand::Open(map) => disk_of(map),
+            Stand::Open(map) => disk_of(map.into_replies()),
+            Stand::Needing(map) => disk_of(map.into_replies()),
         });
     }
 }
@@ -40,7 +65,8 @@ fn taken(alloc: Global, stand: &mut Stand) -> Result<MemoryDisk, AllocError> {
     let empty = Stand::Closed(MemoryDisk::new(alloc, 1)?);
     match mem::replace(stand, empty) {
         Stand::Closed(disk) => Ok(disk),
-        Stand::Open(map) => Ok(disk_of(map)),
+        Stand::Open(map) => Ok(disk_of(map.into_replies())),
+        Stand::Needing(map) => Ok(disk_of(map.into_replies())),
     }
 }
 
@@ -60,12 +86,12 @@ fn replace(stand: &mut Stand, next: Stand) {
     mem::replace(stand, next).end();
 }
 
-/// Opens this disk in the place of what was there, served with these settings, so that these calls after its opening fail.
+/// Opens this disk in the place of what was there in this way, so that these calls after its opening fail.
 fn open(
     alloc: Global,
     stand: &mut Stand,
     disk: MemoryDisk,
-    settings: Settings,
+    way: Way,
     failing: Failing,
     answer: &mut Answer,
 ) {
@@ -73,10 +99,10 @@ fn open(
     match opened_service(
         alloc,
         FaultyDisk::new(disk, failing.behind(calls)),
-        settings,
+        way.settings,
     ) {
         Ok(map) => {
-            replace(stand, Stand::Open(PreparingReplies::new(map)));
+            replace(stand, opened(map, way.needs_standby));
             answer.say("open");
         }
         Err((disk, fault)) => match disk {
@@ -90,19 +116,13 @@ fn open(
     }
 }
 
-/// Opens the disk, served with these settings, so that these calls after its opening fail.
-fn open_again(
-    alloc: Global,
-    stand: &mut Stand,
-    settings: Settings,
-    failing: &str,
-    answer: &mut Answer,
-) {
+/// Opens the disk in this way, so that these calls after its opening fail.
+fn open_again(alloc: Global, stand: &mut Stand, way: Way, failing: &str, answer: &mut Answer) {
     let Some(failing) = failing_in(failing) else {
         return answer.reject();
     };
     if let Some(disk) = answer.granted(taken(alloc, stand)) {
-        open(alloc, stand, disk, settings, failing, answer);
+        open(alloc, stand, disk, way, failing, answer);
     }
 }
 
@@ -132,25 +152,19 @@ fn fresh_disk(alloc: Global, sectors: u64) -> Result<MemoryDisk, StoreFault> {
 }
 
 /// Makes a disk of this size in sectors that holds the empty map, and opens it.
-fn begin(alloc: Global, stand: &mut Stand, sectors: u64, settings: Settings, answer: &mut Answer) {
+fn begin(alloc: Global, stand: &mut Stand, sectors: u64, way: Way, answer: &mut Answer) {
     clear(alloc, stand, 1, answer);
     match fresh_disk(alloc, sectors) {
-        Ok(disk) => open(alloc, stand, disk, settings, NONE, answer),
+        Ok(disk) => open(alloc, stand, disk, way, NONE, answer),
         Err(fault) => answer.show(&fault),
     }
 }
 
 /// Makes a disk of this size in sectors that holds the empty map in the first version of the format, and opens it.
-fn begin_first(
-    alloc: Global,
-    stand: &mut Stand,
-    sectors: u64,
-    settings: Settings,
-    answer: &mut Answer,
-) {
+fn begin_first(alloc: Global, stand: &mut Stand, sectors: u64, way: Way, answer: &mut Answer) {
     if let Some(mut disk) = answer.granted(MemoryDisk::new(alloc, sectors)) {
         match format_version(&mut disk, FIRST_VERSION) {
-            Ok(()) => open(alloc, stand, disk, settings, NONE, answer),
+            Ok(()) => open(alloc, stand, disk, way, NONE, answer),
             Err(fault) => answer.show(&fault),
         }
     }
@@ -196,6 +210,7 @@ pub(crate) enum OfStand {
     Sector,
     Again,
     Admin,
+    Standby,
 }
 
 /// Does what a line about the disk asks for. What is opened has entity tags, if there is a number that those of tiles begin with.
@@ -208,16 +223,21 @@ pub(crate) fn run(
     answer: &mut Answer,
 ) {
     let access = match asks {
-        OfStand::Admin => Access::Admin,
+        OfStand::Admin | OfStand::Standby => Access::Admin,
         _ => Access::Map,
     };
-    let settings = Settings { access, tags };
+    let way = Way {
+        settings: Settings { access, tags },
+        needs_standby: matches!(asks, OfStand::Standby),
+    };
     match asks {
-        OfStand::Begin => begin(alloc, stand, line.number, settings, answer),
-        OfStand::First => begin_first(alloc, stand, line.number, settings, answer),
+        OfStand::Begin => begin(alloc, stand, line.number, way, answer),
+        OfStand::First => begin_first(alloc, stand, line.number, way, answer),
         OfStand::Zeros => zeros(alloc, stand, line.number, answer),
         OfStand::Upgrade => upgrade(alloc, stand, answer),
         OfStand::Sector => overwrite(alloc, stand, line.rest, answer),
-        OfStand::Again | OfStand::Admin => open_again(alloc, stand, settings, line.rest, answer),
+        OfStand::Again | OfStand::Admin | OfStand::Standby => {
+            open_again(alloc, stand, way, line.rest, answer)
+        }
     }
 }

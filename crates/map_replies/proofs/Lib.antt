@@ -3,6 +3,7 @@ mod Answering
 mod Apart
 mod CheckedEdits
 mod ConditionLemmas
+mod ConfirmedLemmas
 pub mod Connections
 pub mod Passing
 mod TicketLemmas

@@ -1,5 +1,6 @@
 pub mod Bodies
 pub mod Conditions
+pub mod Confirming
 pub mod Feed
 pub mod Lists
 pub mod Meanings
@@ -11,4 +12,5 @@ pub mod Served
 pub mod Standby
 pub mod State
 pub mod Tickets
+pub mod Waits
 pub mod Words

@@ -118,6 +118,13 @@ service_refusal fault = plain_reply (service_status fault) (Some text_type) (ser
 unfoldable pub method_word : List ℕ
 method_word = codes "Method\n"
 
+-- no standby is near that the edits of a map have to be on: an edit isn't made
+unfoldable pub standby_word : List ℕ
+standby_word = codes "Standby\n"
+
+abbrev pub unheard_reply : ReplyView
+unheard_reply = plain_reply 503 (Some text_type) standby_word
+
 -- 405 Method Not Allowed, with the methods that the path allows (RFC 9110, 15.5.6)
 abbrev pub not_allowed_reply : Asked → ReplyView
 not_allowed_reply asked = record { status = 405; kind = Some text_type; range = None; tag = None; allow = Some (allow_of asked); content = method_word }

@@ -3,6 +3,7 @@
 //! too, before its reply, a large tile of the archive is read by parts, and so are the features of a large map for its metadata.
 ghost use Rattle.std.specs.Prelude.{◌≡◌, ◌≤◌, true, [], length, vec_capacity, IsTrue, IfErr, IfSome, None, Some, Ok};
 ghost use Rattle.http_serve.specs.Reply.{ReplyView, IsReply, InParts, IsWhole, HasShortWords, head_view, reply_view};
+ghost use Rattle.http_serve.specs.Waits.{IsRest};
 ghost use Rattle.tile_routes.specs.Methods.{method_on};
 ghost use Rattle.tile_routes.specs.Paths.{asked_action};
 ghost use Rattle.tile_routes.specs.Targets.{asked_of};
@@ -15,11 +16,13 @@ ghost use Rattle.map_replies.specs.Preparing.{asks_to_publish, calls_publication
 ghost use Rattle.map_replies.specs.Preparing.{BeginsLate, MayPost, IsReady};
 ghost use Rattle.map_replies.specs.Preparing.{PreparingReplied, PreparingSends, Prepares, PreparesTile, ReadsPart};
 ghost use Rattle.map_replies.specs.State.{access_of, tags_of};
+ghost use Rattle.map_replies.specs.Waits.{WaitsForEdit};
 ghost use Rattle.map_replies.specs.Words.{left_reply};
 
 use crate::calls::Calls;
 use crate::long_metadata::{LongMetadata, is_for_metadata};
 use crate::long_tiles::{LongTiles, ReadyTiles, asked_tile, is_for_edit};
+use crate::queries::seconds_of;
 use crate::replies;
 use crate::service::MapReplies;
 use crate::turns::Turns;
@@ -30,8 +33,12 @@ use http_serve::{
 };
 use sector_disk::Sectors;
 use std::alloc::AllocError;
+use std::time::Duration;
 use tile_routes::{Action, Method, Target};
 use tile_service::ServiceFault;
+
+/// How many seconds a request for edits waits at most for the next one.
+const MAX_WAIT_SECONDS: u64 = 60;
 
 /// The request handler of a listener: the replies of a map, where a publication is prepared between other replies, and so is a tile of many
 /// features, or a large one of the archive.
@@ -110,6 +117,24 @@ fn after_step(goes_on: bool) -> Preparation {
     } else {
         Preparation::Ready
     }
+}
+
+/// What a step of a preparation came to: none rests.
+fn unrested(preparation: Preparation) -> Preparation
+    ensures { IsRest result → ⊥ }
+{
+    match preparation {
+        Preparation::Ready => Preparation::Ready,
+        Preparation::GoesOn => Preparation::GoesOn,
+        Preparation::Waits | Preparation::Rests(_) => Preparation::Waits,
+    }
+}
+
+/// How much longer a request waits for edits, if it does.
+fn wait_left(query: &[u8], moment: Moment) -> Option<Duration> {
+    let seconds = seconds_of(query, b"wait=").min(MAX_WAIT_SECONDS);
+    let left = Duration::from_secs(seconds).saturating_sub(moment.waited);
+    if left.is_zero() { None } else { Some(left) }
 }
 
 impl<D: Sectors + Drop> Calls<D> {
@@ -449,6 +474,21 @@ impl<D: Sectors + Drop> PreparingReplies<D> {
         Preparation::Ready
     }
 
+    /// How much longer a request waits for the edit after the last one, if that is what it asks for.
+    fn rest_left(&self, target: Target, moment: Moment, request: &Request<'_>) -> Option<Duration>
+        requires asked { asked_of target ≡ asked_for (access_of self.now.replies) request.now }
+        ensures { IfSome result (λ _. WaitsForEdit self.now request.now) }
+    {
+        let Target::EditsFrom(number) = target else {
+            return None;
+        };
+        let last = self.replies.calls.service.last();
+        if number <= last || number - 1 > last || request.method != b"GET".as_slice() {
+            return None;
+        }
+        wait_left(request.query, moment)
+    }
+
     /// Memory for the late answer to a beginning, if that is what is asked for, by a request whose conditions don't refuse it, and the publication in
     /// the making is of that request and can begin.
     fn room_to_begin(&self, target: Target, request: &Request<'_>) -> Option<Vec<u8>>
@@ -617,26 +657,29 @@ impl<D: Sectors + Drop> Downloads for PreparingReplies<D> {
 
 impl<D: Sectors + Drop> Prepares for PreparingReplies<D> {
     ghost use Rattle.map_replies.specs.Preparing.{PreparesFor};
+    ghost use Rattle.map_replies.specs.Waits.{WaitsForEdit};
 
     ghost prepares = { PreparesFor D.sectors D.honest D.history D.faults };
 
-    ghost rests = { λ _ _. Unit {0} };
+    ghost rests = { WaitsForEdit };
 
     ghost holds = { λ _. None };
 
     ghost confirms = { λ _. 0 };
 
-    fn prepare(
-        &mut self,
-        connection: u64,
-        _moment: Moment,
-        request: &Request<'_>,
-    ) -> Preparation {
+    fn prepare(&mut self, connection: u64, moment: Moment, request: &Request<'_>) -> Preparation {
         let target = self.replies.target(request);
         if self.is_to_publish(target, request) {
-            return self.prepare_call(connection, target, request.method);
+            return unrested(self.prepare_call(connection, target, request.method));
         }
-        self.prepare_other(connection, target, request.method)
+        if let Some(left) = self.rest_left(target, moment, request) {
+            return Preparation::Rests(left);
+        }
+        unrested(self.prepare_other(connection, target, request.method))
+    }
+
+    fn mark(&self) -> u64 {
+        self.replies.calls.service.last()
     }
 
     fn hold(&self) -> Option<Hold> {

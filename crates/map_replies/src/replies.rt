@@ -9,7 +9,7 @@ ghost use Rattle.map_replies.specs.Words.{outcome_reply, changed_word, changed_r
 ghost use Rattle.map_replies.specs.Words.{published_body, published_reply, cancel_reply};
 ghost use Rattle.map_replies.specs.Words.{format_type, format_content, content_reply, tile_reply, refusal_of};
 ghost use Rattle.tile_routes.specs.Targets.{asked_of};
-ghost use Rattle.map_replies.specs.Words.{text_type, json_type, tile_type, with_tag, same_tile_reply};
+ghost use Rattle.map_replies.specs.Words.{text_type, json_type, tile_type, unheard_reply, with_tag, same_tile_reply};
 ghost use Rattle.map_replies.specs.declared.replies.TheConstants.{MAX_TEXT};
 
 use crate::fault::RequestFault;
@@ -196,6 +196,19 @@ pub(crate) fn not_allowed(target: Target) -> Reply
         Content::Fixed(b"Method\n"),
     )
     .allowing(target.allow())
+}
+
+/// The reply to an edit that isn't made because no standby would have it.
+#[tactic(auto, unfolding(crate::specs::Words::text_type, crate::specs::Words::standby_word))]
+pub(crate) fn no_standby() -> Reply
+    ensures reply { reply_view [] result ≡ unheard_reply }
+    ensures writable { IsWhole result }
+{
+    Reply::plain(
+        Status::ServiceUnavailable,
+        Some("text/plain"),
+        Content::Fixed(b"Standby\n"),
+    )
 }
 
 /// The reply with a text in JSON.

@@ -2,12 +2,14 @@
 //! stretches of the connections, in their order, are one run of events.
 #![tactic(auto)]
 
+mod confirming;
 mod connections;
 mod fault;
 mod files;
 mod fresh;
 mod opening;
 
+pub use confirming::serve_confirmed_on;
 pub use connections::serve_map_on;
 pub use fault::FileFault;
 pub use files::{formatted_file, new_disk_file, sync_folder};

@@ -16,6 +16,8 @@ enum Takes {
     Connections,
     /// Nothing: it is given or not.
     Nothing,
+    /// The same, and it is given only beside the argument of this id.
+    NothingBeside(&'static str),
 }
 
 /// How an argument is given.
@@ -137,6 +139,15 @@ const STOPS: Word = Word {
     help: "Ends with status 1 once a write or sync of the disk failed, after the requests seen by then",
 };
 
+/// Whether an edit is acknowledged only once a standby has it.
+const NEEDED: Word = Word {
+    id: "NEEDED",
+    name: "NEEDED",
+    given: Given::Long("standby-needed"),
+    takes: Takes::NothingBeside("ADMIN"),
+    help: "Acknowledges an edit once a standby has it too, and without one refuses edits; needs --admin",
+};
+
 /// How much is told of an error.
 const VERBOSE: Word = Word {
     id: "VERBOSE",
@@ -177,7 +188,16 @@ static COMMANDS: [Row; 9] = [
     ),
     (
         "serve",
-        &[DISK, PORT, CONNECTIONS, ADMIN, ETAGS, STOPS, VERBOSE],
+        &[
+            DISK,
+            PORT,
+            CONNECTIONS,
+            ADMIN,
+            ETAGS,
+            STOPS,
+            NEEDED,
+            VERBOSE,
+        ],
         "Serves the map of a disk file on a port of 127.0.0.1 to many clients by turns",
     ),
     (
@@ -198,7 +218,7 @@ static COMMANDS: [Row; 9] = [
 ];
 
 /// The argument in clap's terms.
-fn arg_of<'a>(alloc: Global, word: Word) -> Arg<'a> {
+fn arg_of<'a>(alloc: Global, word: Word) -> Result<Arg<'a>, AllocError> {
     let arg = Arg::new(alloc, word.id)
         .value_name(word.name)
         .help(word.help);
@@ -212,9 +232,10 @@ fn arg_of<'a>(alloc: Global, word: Word) -> Arg<'a> {
         Takes::Sectors => arg.value_parser(clap::value_parser!(u64)),
         Takes::Port => arg.value_parser(clap::value_parser!(u16).range(1..)),
         Takes::Connections => arg.value_parser(clap::value_parser!(u32).range(1..)),
-        Takes::Nothing => return arg.action(ArgAction::SetTrue),
+        Takes::Nothing => return Ok(arg.action(ArgAction::SetTrue)),
+        Takes::NothingBeside(id) => return arg.action(ArgAction::SetTrue).requires_arg(id),
     };
-    arg.required(true).action(ArgAction::Set)
+    Ok(arg.required(true).action(ArgAction::Set))
 }
 
 /// The command of a row in clap's terms.
@@ -222,7 +243,7 @@ fn command_of<'a>(alloc: Global, row: Row) -> Result<Command<'a>, AllocError> {
     let (name, words, about) = row;
     let mut command = Command::new(alloc, name).about(about);
     for word in words {
-        command = command.arg(arg_of(alloc, *word))?;
+        command = command.arg(arg_of(alloc, *word)?)?;
     }
     Ok(command)
 }

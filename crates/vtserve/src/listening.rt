@@ -36,6 +36,8 @@ pub(crate) struct Listening {
     pub(crate) connections: u32,
     /// Whether the first write or sync of the disk that fails ends it, after the current requests.
     pub(crate) stops: bool,
+    /// Whether an edit is acknowledged only once a standby has it.
+    pub(crate) needs_standby: bool,
 }
 
 /// What the words of the command ask for, unless a number is 0.
@@ -51,6 +53,7 @@ pub(crate) fn listening_of(words: &ArgMatches<'_>) -> Option<Listening>
         port,
         connections,
         stops: words.get_flag("STOPS"),
+        needs_standby: words.get_flag("NEEDED"),
     })
 }
 
@@ -63,7 +66,7 @@ fn listen_on(rt: &HostRuntime, port: u16) -> io::Result<SystemListener> {
 }
 
 /// Listens on a port, and says so.
-fn listener_on(rt: &HostRuntime, port: u16) -> Result<SystemListener, CommandFault> {
+pub(crate) fn listener_on(rt: &HostRuntime, port: u16) -> Result<SystemListener, CommandFault> {
     let listener = match listen_on(rt, port) {
         Ok(listener) => listener,
         Err(error) => {

@@ -4,6 +4,7 @@
 mod archives;
 mod boxed;
 mod commands;
+mod confirming;
 mod copying;
 mod descriptors;
 mod exporting;

@@ -1,9 +1,10 @@
 //! Connections to a map.
 
+use crate::confirming::confirm_connections;
 use crate::fault::CommandFault;
 use crate::listening::{Listening, serve_connections};
 use crate::looks::Looks;
-use map_replies::{MapReplies, PreparingReplies, serve_map};
+use map_replies::{ConfirmedReplies, MapReplies, PreparingReplies, serve_map};
 use sector_disk::Sectors;
 use std::time::{SystemTime, UNIX_EPOCH};
 
@@ -40,6 +41,19 @@ fn serve_streams<D: Sectors + Drop>(
     }
 }
 
+/// Serves a map whose edits are to be on two machines, over a disk file that is watched meanwhile, and closes its disk.
+fn confirm<D: Sectors + Drop>(
+    rt: &HostRuntime,
+    map: PreparingReplies<D>,
+    asked: Listening,
+    looks: &Looks<'_>,
+) -> Result<(), CommandFault> {
+    let mut map = ConfirmedReplies::new(map);
+    let served = confirm_connections(rt, asked, &mut map, looks);
+    drop(map.into_replies().into_service().into_disk());
+    served
+}
+
 /// Serves a map, over a disk file that is watched meanwhile, and closes its disk.
 pub(crate) fn serve<D: Sectors + Drop>(
     rt: &HostRuntime,
@@ -50,6 +64,7 @@ pub(crate) fn serve<D: Sectors + Drop>(
     let mut map = PreparingReplies::new(map);
     let served = match peers {
         Peers::Streams => serve_streams(rt, map.replies_mut(), looks),
+        Peers::Port(asked) if asked.needs_standby => return confirm(rt, map, asked, looks),
         Peers::Port(asked) => serve_connections(rt, asked, &mut map, looks),
     };
     drop(map.into_replies().into_service().into_disk());

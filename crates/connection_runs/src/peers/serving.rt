@@ -1,19 +1,27 @@
 //! Peers that are served, and what is told of them.
 use super::listener::{Accepts, Listener};
 use super::{Gathered, Peer, Room, Watch};
-use crate::stands::Map;
+use crate::stands::{Map, NeedingMap};
 use crate::texts::tell_bytes;
 use http_listen::Log;
-use map_server::serve_map_on;
+use map_server::{serve_confirmed_on, serve_map_on};
 use script_bytes::Answer;
 use script_disks::{Narrow, Narrowness, WIDE};
 use std::alloc::Global;
 use std::cell::Cell;
 
+/// What serves peers.
+pub(crate) enum Serving<'a> {
+    /// A map.
+    Map(&'a mut Map),
+    /// A map whose edits need a standby.
+    Needing(&'a mut NeedingMap),
+}
+
 /// Serves peers by a map. Whether the listener failed, and when that was over.
 fn serve<'a>(
     alloc: Global,
-    map: &mut Map,
+    map: Serving<'_>,
     peers: &'a [Peer<'a>],
     accepts: &'a [Accepts],
     room: Room,
@@ -24,7 +32,12 @@ fn serve<'a>(
     let mut listener = Listener::new(peers, accepts, room, watch);
     let count = peers.len() as u64;
     let mut lines = Log::new(log);
-    let ended = serve_map_on(&watch, alloc, &mut listener, count, map, &mut lines);
+    let ended = match map {
+        Serving::Map(map) => serve_map_on(&watch, alloc, &mut listener, count, map, &mut lines),
+        Serving::Needing(map) => {
+            serve_confirmed_on(&watch, alloc, &mut listener, count, map, &mut lines)
+        }
+    };
     (ended.is_err(), now.get())
 }
 
@@ -70,7 +83,7 @@ fn tell_peers(peers: &[Peer<'_>], answer: &mut Answer) {
 /// Serves peers by a map, and tells how the listener ended, when that was, and its log.
 fn tell_served<'a>(
     alloc: Global,
-    map: &mut Map,
+    map: Serving<'_>,
     peers: &'a [Peer<'a>],
     accepts: &'a [Accepts],
     room: Room,
@@ -92,7 +105,7 @@ fn tell_served<'a>(
 /// the last byte came and all that it got, or that it is the same as of the peer before.
 pub(crate) fn serve_peers(
     alloc: Global,
-    map: &mut Map,
+    map: Serving<'_>,
     gathered: &Gathered,
     room: Room,
     answer: &mut Answer,

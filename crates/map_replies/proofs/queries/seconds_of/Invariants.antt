@@ -1,0 +1,5 @@
+use Rattle.std.proofs.Common.{length, ◌-◌}
+use Rattle.map_replies.proofs.queries.seconds_of.Given as goal
+
+abbrev pub decreases-parts : goal.decreases-parts
+decreases-parts l = length l.query - l.start
