@@ -17,6 +17,7 @@ export const WHY = {
     Device: "the disk of the server failed: the last edit may be stored or not: tell the administrator, now. What was acknowledged is safe",
     Broken: "the disk of the server has failed before: tell the administrator, now. What was acknowledged is safe",
     NumbersSpent: "the server can take no further edit: tell the administrator",
+    Standby: "nothing was changed: no second machine has the map's last edits just now: try again in a minute, and if that doesn't help tell the administrator",
     Memory: "the server is out of memory: try again later, and tell the administrator",
     401: "a name and a password are needed: give those that you got from the administrator; in the page press Log in",
     403: "the proxy in front of the server doesn't let this machine edit the map: ask the administrator to allow your machine",

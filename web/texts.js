@@ -237,6 +237,8 @@ const DE = {
             + "ist sicher",
         Broken: "der Datenträger des Servers hat vorhin versagt: sofort der Verwaltung sagen. Was bestätigt wurde, ist sicher",
         NumbersSpent: "der Server kann keine weitere Änderung annehmen: der Verwaltung sagen",
+        Standby: "nichts wurde geändert: kein zweiter Rechner hat gerade die letzten Änderungen der Karte: in einer Minute noch einmal versuchen, und "
+            + "wenn das nicht hilft, der Verwaltung sagen",
         Memory: "der Server hat keinen Speicher frei: später noch einmal versuchen, und der Verwaltung sagen",
         401: "Name und Passwort sind nötig: auf Anmelden drücken und die eingeben, die du von der Verwaltung hast",
         403: "der Proxy vor dem Server lässt diesen Rechner die Karte nicht bearbeiten: die Verwaltung bitten, ihn zuzulassen",

@@ -37,12 +37,19 @@ class Leader(Client):
     def stop_at(self, status, content):
         """Stops at a refusal that every further request would get; one that passes is no answer."""
         if status in WAITED_FOR:
-            raise NoAnswer(f"no reply of {self.address}: {status} {word(content)}")
+            said = word(content)
+            raise NoAnswer(f"{self.address}: {said} ({told(WORDS[said])})" if said in WORDS else f"no reply of {self.address}: {status} {said}")
         super().stop_at(status, content)
 
-    def edits_from(self, number):
-        """The edits from a number on that one reply has, in order, and the number of the last edit. LeftBehind if they were published."""
-        status, content = self.ask("GET", f"{FEED}/{number}")
+    def edits_from(self, number, wait=0, has_earlier=False):
+        """The edits from a number on that one reply has, in order, and the number of the last edit. LeftBehind if they were published. If there are
+        none yet, the server waits up to `wait` seconds for one. `has_earlier` tells it that all edits before are on the disk of a standby."""
+        words = [f"wait={wait}"] * bool(wait) + ["standby"] * has_earlier
+        path = f"{FEED}/{number}"
+        # What was sent ahead says nothing of a standby, and has edits to tell.
+        if words and self.ahead != ("GET", path):
+            path += "?" + "&".join(words)
+        status, content = self.ask("GET", path)
         if status == 200:
             reply = self.value(content)
             for at, edit in enumerate(reply["edits"], number):

@@ -41,10 +41,13 @@ WORDS = {
                      f"{TELL}, now. What was acknowledged is safe"),
     "Broken": Reason("the disk of the server has failed before", "restart the server when the disk is repaired", f"{TELL}, now. What was acknowledged is safe"),
     "NumbersSpent": Reason("the server can take no further edit", "put its features into a map on a new disk (docs/DEPLOYING.md)", TELL),
+    "Standby": Reason("nothing was changed: no second machine has the map's last edits just now",
+                      "`vtmap follow` has to run and reach both machines (docs/DEPLOYING.md, A second machine)",
+                      "try again in a minute, and if that doesn't help tell the administrator"),
     "Memory": Reason("the server is out of memory", "try again later, and look at how much it may take (docs/DEPLOYING.md)", f"try again later, and {TELL}"),
 }
 # Words that every further request would get, and those of them that say that the disk is full.
-FINAL = ("JournalFull", "AreaFull", "TooManyTiles", "Device", "Broken", "NumbersSpent")
+FINAL = ("JournalFull", "AreaFull", "TooManyTiles", "Device", "Broken", "NumbersSpent", "Standby")
 NO_ROOM = ("JournalFull", "AreaFull", "TooManyTiles")
 MOVED = Reason("another address is meant, perhaps one with https", "is --url right?")
 NO_PATH = Reason("the server, or the proxy in front of it, has no such path", "is --url right? Does the proxy pass it (docs/nginx.conf)?",
@@ -72,7 +75,7 @@ STATUSES = {
 }
 WRONG_PASSWORD = "the name or the password is wrong: they are in the URL, or in VTSERVE_USER and VTSERVE_PASSWORD"
 # Rows of the table in OFFICE.md: what it says, by the keys above.
-ROWS = [("JournalFull",), ("AreaFull", "TooManyTiles"), ("Device", "Broken"), ("Memory",), ("E8 Long", 413), ("E9 Reach",), (401,), (403,), (421,), (429,),
+ROWS = [("JournalFull",), ("AreaFull", "TooManyTiles"), ("Device", "Broken"), ("Standby",), ("Memory",), ("E8 Long", 413), ("E9 Reach",), (401,), (403,), (421,), (429,),
         (502, 503)]
 
 

@@ -25,10 +25,13 @@ A standby begins as a copy of the server's disk, and nobody else edits it:
     vtserve copy map.disk standby.disk
     vtserve serve --port 8090 --connections 4294967295 --admin standby.disk
 
-Each edit of the server becomes an edit of the standby with the same number and the same changes, within --every seconds. The standby itself
-makes an edit only under that number, so none is made twice or left out, whoever is stopped meanwhile: this command, the server or the standby.
-Each begins where the standby is. At the beginning the standby's last edit is compared with the server's, if both still list it, and all features
-but those that later edits change: a server that was put back from a copy is another map.
+Each edit of the server becomes an edit of the standby with the same number and the same changes. The server replies as soon as there is one; for
+a log, and of an older server, it is asked every --every seconds. The standby itself makes an edit only under that number, so none is made twice or
+left out, whoever is stopped meanwhile: this command, the server or the standby. Each begins where the standby is. At the beginning the standby's
+last edit is compared with the server's, if both still list it, and all features but those that later edits change: a server that was put back from
+a copy is another map.
+
+With every request the server is told which edits are on the standby's disk: `vtserve serve --standby-needed` acknowledges an edit only then.
 
 --log FILE appends a line of JSON for each edit, `{"time":..,"edit":7,"changes":[{"put":9,"feature":{..},"was":{..}}]}`, with the time when the
 edit was seen and what each feature was before: `vtmap log` reads it, and `vtmap undo` takes edits back by it. For that the features of the map
@@ -47,6 +50,8 @@ Each standby and the log is followed by itself: where one can't go on, it says w
 with --once once all edits are followed."""}
 # How many seconds there are between two looks whether the server has published.
 LOOK = 10
+# How many seconds the server is to wait for the next edit, and the shortest such wait: an older server replies at once.
+WAIT, SHORTEST = 2, 1
 
 
 def say(line, out=sys.stdout):
@@ -62,13 +67,15 @@ class Follower:
         self.leader = Leader(words.url)
         # With which status it ends, what was said last of who doesn't answer, the server's publication that is known, and whether it has begun.
         self.status, self.told, self.generation, self.is_begun = 1, None, None, False
-        self.looked = 0.0
+        # When the server was looked at, and whether its last reply had no edits and came at once.
+        self.looked, self.is_early = 0.0, True
 
     def run(self):
         """Follows until it can't go on, or with --once until all edits are followed."""
         try:
             while not self.is_done():
-                time.sleep(self.words.every)
+                if self.is_early:
+                    time.sleep(self.words.every)
             self.status = 0
         except Fault as fault:
             self.status = fault.status
@@ -101,8 +108,12 @@ class Follower:
 
     def pass_on(self):
         """Passes the edits of one reply on. Returns whether there are more."""
-        asked = datetime.now(timezone.utc)
-        edits, last = self.leader.edits_from(self.sink.at + 1)
+        asked, began = datetime.now(timezone.utc), time.monotonic()
+        is_standby = isinstance(self.sink, Standby)
+        # A log's lines say when there was no later edit: that is asked for again and again.
+        wait = WAIT if is_standby and not self.words.once else 0
+        edits, last = self.leader.edits_from(self.sink.at + 1, wait, is_standby)
+        self.is_early = not edits and time.monotonic() < began + SHORTEST
         if edits:
             if edits[-1]["edit"] < last:
                 self.leader.send_ahead(f"{FEED}/{edits[-1]['edit'] + 1}")
@@ -144,7 +155,7 @@ class Follower:
         """Waits for the server, or the standby, which then says anew where it is: an edit whose reply was lost is made or not."""
         if self.words.once:
             raise fault
-        self.is_begun = False
+        self.is_begun, self.is_early = False, True
         if str(fault) != self.told:
             self.told = str(fault)
             say(f"{fault}: waiting")
@@ -176,7 +187,7 @@ def options(parser, _):
     parser.add_argument("--layer", action="append", help="--run: only this layer; may be given several times")
     parser.add_argument("--publish", action="store_true", help="publish a standby when its journal is full, and after the server")
     parser.add_argument("--anew", metavar="COMMAND", help="what begins a standby anew from a copy; its address is $STANDBY")
-    parser.add_argument("--every", type=float, default=0.1, metavar="SECONDS", help="how often to ask for new edits (0.1)")
+    parser.add_argument("--every", type=float, default=0.1, metavar="SECONDS", help="how often to ask for a log, or an older server (0.1)")
     parser.add_argument("--once", action="store_true", help="end once all edits are followed")
 
 

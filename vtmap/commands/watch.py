@@ -34,8 +34,8 @@ soon, 2 if something doesn't work any more (no server, a failed disk, a full jou
 monitors such as Nagios expect, and cron mails what is printed.
 
 It always sees a full journal, an area that is nearly full or that the next publication may not fit, an archive that has nearly as many
-entries as one may have, a publication that was left under way, a failed disk, and a server that doesn't answer. --state FILE keeps what was
-seen, for the next look: whether the journal fills before the next publication. --record FILE is what `vtmap publish --record` keeps:
+entries as one may have, a publication that was left under way, a failed disk, a server that needs a standby and hears of none, and one that
+doesn't answer. --state FILE keeps what was seen, for the next look: whether the journal fills before the next publication. --record FILE is what `vtmap publish --record` keeps:
 whether the last publication was refused, and when it was. --backups FOLDER is where vtserve-backup.service saves the map
 (map-2026-11-29.jsonl): whether the newest backup is older than --backup-hours. --standby URL is a server that `vtmap follow` keeps as this
 one, and --log FILE a log that it writes: whether they lack edits. --gateway URL is a `vtmap wfs`: whether it answers. --files FOLDER is
@@ -58,6 +58,9 @@ FIRST = 10
 MUCH = 50
 LARGER = "move the map to a larger disk (docs/DEPLOYING.md): once it is full, nothing can be published, and when the journal is full too, nothing can be edited"
 IN_FRONT = "the proxy in front of the server answers, but the server doesn't: systemctl status vtserve"
+# After so many seconds without a standby a server that needs one takes no edit.
+AWAY = 5
+DOES_IT_RUN = "Is `vtmap follow` running, and what does it say (journalctl -u vtserve-standby)?"
 # How urgent a reply is that isn't the status.
 LEVELS = {401: UNKNOWN, 403: UNKNOWN, 404: UNKNOWN, 421: UNKNOWN}
 METRICS = [
@@ -77,6 +80,8 @@ METRICS = [
     ("area_sectors", "gauge", "The sectors of an area."),
     ("stale_cells", "gauge", "The cells that edits have touched since the last publication began."),
     ("cells", "gauge", "The cells in which those are counted."),
+    ("standby_confirmed_edit", "gauge", "With --standby-needed: the last edit that a standby has."),
+    ("standby_heard_seconds", "gauge", "With --standby-needed: how long ago a standby was heard of."),
     ("watch_result", "gauge", "What `vtmap watch` ends with: 0 nothing to do, 1 soon, 2 now, 3 unknown."),
 ]
 
@@ -246,6 +251,22 @@ def backed_up(folder, now, most):
         yield SOON, f"the newest backup in {folder} is {hours:.1f} hours old, and it may be {most:g}: journalctl -u vtserve-backup says why"
 
 
+def unconfirmed(status, client, wait):
+    """Whether a server that acknowledges no edit without a standby lacks one."""
+    known = status.get("standby")
+    if known is None:
+        return
+    if known["heard"] is not None and known["confirmed"] < status["edits"]:
+        time.sleep(wait)
+        known = status_of(client)["standby"]
+    if known["heard"] is None or known["heard"] > AWAY:
+        since = "since it started" if known["heard"] is None else f"for {known['heard']:,} seconds"
+        yield NOW, f"no edit is taken: the server needs a standby (--standby-needed) and has heard of none {since}. {DOES_IT_RUN}"
+    elif known["confirmed"] < status["edits"]:
+        yield NOW, (f"no edit is taken: the server needs a standby (--standby-needed), which has edits up to {known['confirmed']:,} of {status['edits']:,}. "
+                    f"{DOES_IT_RUN}")
+
+
 def behind(urls, status, wait):
     """Whether a standby lacks edits that the server had a while ago."""
     for url in urls:
@@ -336,6 +357,9 @@ def metrics(path, status, result, name_of_map=None):
         }
         others = [("stale_cells", "stale"), ("cells", "cells"), ("archive_entries", "entries")]
         values |= {name: status[member] for name, member in others if status.get(member) is not None}
+        standby = status.get("standby") or {}
+        values |= {f"standby_{name}": standby[member] for name, member in (("confirmed_edit", "confirmed"), ("heard_seconds", "heard"))
+                   if standby.get(member) is not None}
     replace(path, "".join(
         f"# HELP vtserve_{name} {text}\n# TYPE vtserve_{name} {kind}\nvtserve_{name}{label} {values[name]}\n"
         for name, kind, text in METRICS if name in values
@@ -352,6 +376,7 @@ def tasks(words, client, now):
         status["entries"] = entries(status, client)
         found += [*fullness(status, words.at), *many_tiles(status, words.at), *left(status, client, words.wait)]
         found += speed(status, words.state, now, words.every) if words.state else []
+        found += unconfirmed(status, client, words.wait)
         found += behind(words.standby, status, words.wait)
         found += behind_in_logs(words.log, status, words.wait)
         found += gateways(words.gateway)
