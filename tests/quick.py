@@ -86,6 +86,7 @@ PARTS = [
     Part("types-of-scripts", ["mypy", *TYPED, *SCRIPTS, "tools/floors.py"], ("mypy",)),
     Part("types", ["mypy", "--config-file", "tests/mypy.ini", *UNKEPT, "vtmap"], ("mypy",)),
     Part("types-of-clients", ["mypy", "--config-file", "tests/clients/mypy.ini", *UNKEPT, "-p", "clients"], ("mypy",)),
+    client("confirmed"),
     client("routes"),
     client("tags"),
     client("foreign"),

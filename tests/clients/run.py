@@ -25,6 +25,7 @@ from clients.attachments import by_qgis as files_qgis  # noqa: E402
 from clients.batches import batches  # noqa: E402
 from clients.checkins import checkins  # noqa: E402
 from clients.conditions import tags  # noqa: E402
+from clients.confirmed import confirmed  # noqa: E402
 from clients.desktop import desktop  # noqa: E402
 from clients.direct import direct  # noqa: E402
 from clients.doors import doors  # noqa: E402
@@ -144,6 +145,7 @@ def main():
         "shrinking": shrinking,
         "standby": standby,
         "long-follow": long_follow,
+        "confirmed": confirmed,
         "takeover": takeover,
         "replicas": replicas,
         "trail": trail,

@@ -47,6 +47,7 @@ PHRASES = {
     416: None,
     417: "Expectation Failed",
     501: "Not Implemented",
+    503: "Service Unavailable",
     507: "Insufficient Storage",
 }
 HALF = 20037508.342789244
