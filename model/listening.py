@@ -9,6 +9,7 @@ from reply_stand import PUBLISH, told_of
 TENTH = 100
 END, FLOOD = object(), object()
 NO_MEMORY = b"HTTP/1.1 503 Service Unavailable\r\ncontent-type: text/plain\r\ncontent-length: 7\r\nconnection: close\r\n\r\nMemory\n"
+NO_STANDBY = b"HTTP/1.1 503 Service Unavailable\r\ncontent-type: text/plain\r\ncontent-length: 8\r\n\r\nStandby\n"
 
 
 def sent_by(quick, rate, now):
@@ -52,6 +53,24 @@ class Turn:
         self.place = place
 
 
+class Unsent:
+    """A request of a peer that is answered, and whose reply isn't sent."""
+
+    def __init__(self, request):
+        self.request = request
+
+
+class Unheard:
+    """An edit of a peer that is refused, since no standby is near: nothing is changed."""
+
+
+class Standby:
+    """A request of a peer for the status, which says up to which edit a standby has all, and how many seconds ago one was heard of."""
+
+    def __init__(self, request, confirmed, heard):
+        self.request, self.end = request, b',"standby":{"confirmed":%d,"heard":%s}}' % (confirmed, b"null" if heard is None else b"%d" % heard)
+
+
 class Peer:
     """What a peer does, and what it gets: the requests of it that are answered, how many bytes of the replies, all if that isn't said, the time of
     the last byte, whether the reply for want of memory comes last, and how many of its bytes without end are dropped."""
@@ -83,6 +102,15 @@ def say_peer(script, peer, spelled):
 
 def answer(service, request, is_admin):
     """The bytes of one reply."""
+    if isinstance(request, Unheard):
+        return NO_STANDBY
+    if isinstance(request, Unsent):
+        answer(service, request.request, is_admin)
+        return b""
+    if isinstance(request, Standby):
+        head, content = answer(service, request.request, is_admin).split(b"\r\n\r\n")
+        more = content[:-1] + request.end
+        return head.replace(b"content-length: %d" % len(content), b"content-length: %d" % len(more)) + b"\r\n\r\n" + more
     return connections.outcome(service, request, 4096, is_admin=is_admin).written
 
 

@@ -17,6 +17,7 @@ import reply_listings
 import reply_publications
 import reply_random
 import reply_routes
+import reply_standby
 import reply_tags
 import reply_turns
 from reply_stand import BODY, Script, Stand, request
@@ -129,7 +130,7 @@ def hold_to(examples, start):
 BLOCKS = [*reply_heads.BLOCKS, *reply_routes.BLOCKS, *reply_edits.BLOCKS, *reply_publications.BLOCKS, *reply_tags.BLOCKS]
 BLOCKS += [reply_random.at_random, *reply_hostile.BLOCKS]
 BLOCKS += [*reply_hostile_edits.BLOCKS, *reply_turns.BLOCKS, *reply_admin.BLOCKS, *reply_checked.BLOCKS, *reply_listings.BLOCKS]
-BLOCKS += [*reply_listening.BLOCKS, *reply_contents.BLOCKS]
+BLOCKS += [*reply_listening.BLOCKS, *reply_contents.BLOCKS, *reply_standby.BLOCKS]
 
 
 def files():

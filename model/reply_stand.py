@@ -159,6 +159,10 @@ class Script:
     def admin(self, kind="", number=0):
         self.add(f"admin {kind} {number}" if kind else "admin", self.stand.open(kind, number, True))
 
+    def standby(self):
+        """As `admin`, where edits need a standby. What follows of that the blocks say."""
+        self.add("standby", self.stand.open(is_admin=True))
+
     def tags(self, start=None):
         """What is opened from now on has entity tags, of which those of tiles begin with this number, or has none."""
         self.stand.start = start
