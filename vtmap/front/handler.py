@@ -70,7 +70,7 @@ class FrontHandler(Handler):
             self.head(302, [("Location", "/pages/"), ("Content-Length", "0")])
         elif path == SCHEMA and self.command in READS:
             self.path = SCHEMA_OF_GATEWAY
-            self.pass_on(self.behind.gateway, {"Host": HERE}, 0, [])
+            self.pass_on(self.behind.gateway, {"Host": HERE, **self.fields(("If-None-Match",))}, 0, [])
         elif PAGE.fullmatch(path):
             self.send_page(PAGE.fullmatch(path)[1] or "index.html")  # type: ignore[index]
         elif path == "/map.json":

@@ -1,5 +1,6 @@
 """HTTP for the gateway: paths, addresses, origins, sizes, times, and a reply for each fault. Needs no package."""
 import gzip
+import hashlib
 import http
 import json
 import re
@@ -176,7 +177,11 @@ class Handler(BaseHTTPRequestHandler):
         with live.lock:
             schema = live.see_schema()
         status, text, kind = (200, schema.text(), JSON) if schema.layers else (404, "the map has no schema", TEXT)
-        self.reply(status, text.encode(), kind)
+        tag = f'W/"{hashlib.sha256(text.encode()).hexdigest()[:32]}"'
+        if status == 200 and tag in self.headers.get("if-none-match", ""):
+            self.write(304, b"", [("ETag", tag), ("Cache-Control", "no-store"), *SAFETY])
+            return
+        self.reply(status, text.encode(), kind, [("ETag", tag)] if status == 200 else [])
 
     def add_to_schema(self, body):
         """Adds what a body has to the schema."""
