@@ -49,6 +49,8 @@ export function open(title, ...parts) {
     panel.replaceChildren(heading, ...parts);
     panel.hidden = false;
     panel.scrollTop = 0;
+    // What is scrolled into view isn't below the buttons.
+    panel.style.setProperty("--actions", `${panel.querySelector(".actions")?.offsetHeight ?? 0}px`);
     heading.focus({ preventScroll: true });
 }
 
