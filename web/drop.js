@@ -1,9 +1,11 @@
 // A file that is dropped on the page: its features are shown first, then sent by checked edits, and can be taken back as one.
+import { Cut } from "./cut.js";
 import { THEIRS } from "./draw.js";
 import { nextId } from "./editor.js";
 import { groupsOf } from "./edits.js";
 import { featuresIn } from "./files.js";
 import { actions, button, close, covered, element, open, table, tell } from "./panel.js";
+import { missing } from "./schema.js";
 import { Changed, Refused } from "./server.js";
 import { chainsOf, isLarge, pointsOf } from "./shape.js";
 import { texts } from "./texts.js";
@@ -26,48 +28,86 @@ export class Drop {
     file = null;
     isSending = false;
 
-    /** `layers()` are those of the map; `saved(edit)` is called after each edit. */
-    constructor(view, server, layers, saved) {
-        Object.assign(this, { view, server, layers, saved });
+    /** `layers()` are those of the map, `schema` is its `Schema`; `saved(edit)` is called after each edit. */
+    constructor(view, server, layers, schema, saved) {
+        Object.assign(this, { view, server, layers, schema, saved });
     }
 
-    /** Reads a file, and shows what it has. */
-    async begin(given) {
+    /** Reads a file, and shows what it has. One that seems to be cut is read if the person says that it `isWhole`. */
+    async begin(given, isWhole = false) {
         if (given.size > MAX_BYTES) {
             throw new Error(texts.tooLargeFile(given.name, `${MAX_BYTES / 2 ** 20} MiB`));
         }
-        const { features, notes, refused } = featuresIn(given.name, new Uint8Array(await given.arrayBuffer()));
-        if (features.length > MAX_FEATURES) {
-            throw new Error(texts.tooLargeFile(given.name, texts.found(MAX_FEATURES)));
+        const bytes = new Uint8Array(await given.arrayBuffer());
+        try {
+            await this.take(given.name, featuresIn(given.name, bytes, isWhole));
+        } catch (fault) {
+            if (!(fault instanceof Cut)) {
+                throw fault;
+            }
+            const told = element("p", { className: "fault", role: "alert" }, texts.seemsCut(given.name, fault.message));
+            open(given.name, told, actions(button(texts.itIsWhole, () => this.begin(given, true)), button(texts.cancel, () => this.end())));
         }
-        this.file = { name: given.name, features, notes, refused, sent: [], edits: [], drawn: drawnOf(features) };
+    }
+
+    /** Shows what is read of a file of this name. */
+    async take(name, { features, notes, refused }) {
+        if (features.length > MAX_FEATURES) {
+            throw new Error(texts.tooLargeFile(name, texts.found(MAX_FEATURES)));
+        }
+        await this.schema.look();
+        this.file = { name, features, notes, refused, sent: [], edits: [], drawn: drawnOf(features) };
         this.show();
         features.length && this.view.show(bounds(features.flatMap(({ geometry }) => pointsOf(geometry))), covered());
         this.view.redraw();
     }
 
+    /** The zooms of a layer, by the schema, by the map, or those of the import. */
+    zoomsOf(layer) {
+        const known = this.layers().find(({ id }) => id === layer), { minzoom, maxzoom } = this.schema.layers.get(layer)?.zooms ?? known ?? {};
+        return minzoom === undefined ? ZOOMS : [minzoom, maxzoom];
+    }
+
+    /** The fields of the form by the layers of the file: the name of the layer, its first and its last zoom. */
+    fieldsOf(names) {
+        return new Map(names.map(layer => {
+            const [name, first, last] = [[texts.layer, layer], ...this.zoomsOf(layer).map((zoom, at) => [at ? texts.lastZoom : texts.firstZoom, zoom])]
+                .map(([what, value]) => element("input", { ariaLabel: names.length > 1 ? `${what}: ${layer}` : what, value }));
+            name.onchange = () => {
+                this.schema.layers.has(name.value) && ([first.value, last.value] = this.zoomsOf(name.value));
+                this.file.told.replaceChildren(...this.lines());
+            };
+            return [layer, [name, first, last]];
+        }));
+    }
+
+    /** What is told of the file: notes, what is refused, and for which attributes the schema has no field. */
+    lines() {
+        const { file } = this, { layers } = this.schema, { refused, unknown } = this.held();
+        const named = new Set([...file.fields.values()].map(([name]) => name.value).filter(name => layers.get(name)?.zooms));
+        const zooms = [...named].map(name => texts.bySchema(...this.zoomsOf(name), name)), notes = file.notes.map(([note, count]) => texts.notesOf(note, count));
+        const faults = [...file.refused, ...refused].map(([at, why]) => texts.refusedAt(at, why));
+        const without = element("label", { className: "along" }, file.without, texts.putWithout);
+        return [...listOf([...notes, ...zooms, ...unknown, ...faults]), ...(unknown.length ? [without] : [])];
+    }
+
     /** Shows what is read of the file, and what of it would be refused. */
     show() {
-        const { name, features, notes, refused } = this.file, names = [...new Set(features.map(({ layer }) => layer))];
-        const known = new Map(this.layers().map(layer => [layer.id, layer]));
-        const fields = new Map(names.map(layer => {
-            const { minzoom, maxzoom } = known.get(layer) ?? { minzoom: ZOOMS[0], maxzoom: ZOOMS[1] };
-            const made = [[texts.layer, layer], [texts.firstZoom, minzoom], [texts.lastZoom, maxzoom]]
-                .map(([what, value]) => element("input", { ariaLabel: names.length > 1 ? `${what}: ${layer}` : what, value }));
-            return [layer, made];
-        }));
-        const rows = names.flatMap(layer => [texts.layer, texts.firstZoom, texts.lastZoom].map((what, at) => [what, fields.get(layer)[at]])
+        const { file } = this, { name, features } = file, names = [...new Set(features.map(({ layer }) => layer))];
+        const without = element("input", { type: "checkbox" }), told = element("div");
+        Object.assign(file, { fields: this.fieldsOf(names), without, told });
+        const rows = names.flatMap(layer => [texts.layer, texts.firstZoom, texts.lastZoom].map((what, at) => [what, file.fields.get(layer)[at]])
             .concat([[texts.features, String(features.filter(feature => feature.layer === layer).length)]]));
-        const lines = [...notes.map(([note, count]) => texts.notesOf(note, count)), ...refused.map(([at, why]) => texts.refusedAt(at, why))];
-        const sends = features.length ? [button(texts.sendAll(features.length), () => this.send(fields))] : [];
-        open(texts.fileOf(name, features.length), ...(rows.length ? [table(rows)] : []), ...listOf(lines),
+        told.append(...this.lines());
+        const sends = features.length ? [button(texts.sendAll(features.length), () => this.send())] : [];
+        open(texts.fileOf(name, features.length), ...(rows.length ? [table(rows)] : []), told,
             hint(features.length ? texts.fileHelp : texts.nothingToSend), actions(...sends, button(texts.cancel, () => this.end())));
     }
 
     /** Sends what isn't sent yet. If that fails it can be called again: what was made isn't made twice. */
-    async send(fields) {
+    async send() {
         const { file } = this;
-        file.left ??= this.rowsOf(fields);
+        file.left ??= this.rowsOf();
         this.isSending = true;
         try {
             while (file.left.length) {
@@ -81,16 +121,35 @@ export class Drop {
         this.tellSent(file);
     }
 
-    /** What the features of the file are on the map, by the fields of the form. What is too large for that is refused. */
-    rowsOf(fields) {
-        const { file } = this, whole = ({ value }) => /^\d{1,2}$/.test(value.trim()) ? Number(value) : value;
-        const rows = file.features.map(({ layer, tags, geometry }, at) => {
-            const [name, first, last] = fields.get(layer);
-            return { at: at + 1, id: null, feature: { layer: name.value, minzoom: whole(first), maxzoom: whole(last), geometry, tags } };
+    /**
+     * The features of the file with values of the types of the schema's fields, by the layers that the form names; what the schema refuses of them; and what
+     * is to be done for attributes for which it has no field.
+     */
+    held() {
+        const { file } = this, refused = [], others = new Map(), rows = [];
+        for (const feature of file.features) {
+            const layer = file.fields.get(feature.layer)[0].value, rules = this.schema.layers.get(layer);
+            const tags = rules?.fitted(feature.tags, null) ?? feature.tags;
+            rules && others.set(layer, new Set([...others.get(layer) ?? [], ...rules.unknown(tags)]));
+            const fault = rules?.fault(null, tags);
+            fault ? refused.push([feature.at, fault]) : rows.push({ ...feature, tags });
+        }
+        return { rows, refused, unknown: [...others].filter(([, tags]) => tags.size).map(([layer, tags]) => missing(layer, [...tags])) };
+    }
+
+    /** What the features of the file are on the map, by the fields of the form. What the schema refuses, or is too large for that, is refused. */
+    rowsOf() {
+        const { file } = this, { rows, refused, unknown } = this.held(), whole = ({ value }) => /^\d{1,2}$/.test(value.trim()) ? Number(value) : value;
+        if (unknown.length && !file.without.checked) {
+            throw new Error(unknown.join("; "));
+        }
+        const made = rows.map(({ at, layer, tags, geometry }) => {
+            const [name, first, last] = file.fields.get(layer);
+            return { at, id: null, feature: { layer: name.value, minzoom: whole(first), maxzoom: whole(last), geometry, tags } };
         });
-        const large = rows.filter(({ feature }) => isLarge(feature));
-        file.refused = [...file.refused, ...large.map(({ at }) => [at, texts.tooLargeToCut])];
-        return rows.filter(row => !large.includes(row));
+        const large = made.filter(({ feature }) => isLarge(feature));
+        file.refused = [...file.refused, ...refused, ...large.map(({ at }) => [at, texts.tooLargeToCut])];
+        return made.filter(row => !large.includes(row));
     }
 
     /** Sends the next edit. New features keep their ids until somebody else takes one. */

@@ -4,6 +4,7 @@ import { MINE, THEIRS, drawChosen, drawShape } from "./draw.js";
 import { formOf } from "./form.js";
 import { actions, button, close, covered, element, open, table, tell } from "./panel.js";
 import { Neighbours } from "./neighbours.js";
+import { Schema, layersFor, missing } from "./schema.js";
 import { Changed, canonical } from "./server.js";
 import {
     REACH, REACH_OF_FINGERS, begun, chainsOf, cornerNear, cornersOf, described, grabbed, isLarge, isWhole, listsOf, pointsOf, remove, removeCorner,
@@ -35,7 +36,7 @@ export class Editor {
 
     /** `saved(edit)` is called after each edit. */
     constructor(view, server, layers, saved) {
-        Object.assign(this, { view, server, layers, saved });
+        Object.assign(this, { view, server, layers, saved, schema: new Schema(server) });
     }
 
     /** Begins to edit a feature of a tile, or to delete it, as the map has it now. */
@@ -50,7 +51,7 @@ export class Editor {
         if (!this.draft) {
             const neighbours = new Neighbours(this.view, this.server, pieces ? id : own);
             this.draft = { id: pieces ? id : own, was, pieces, sent: [], feature: deletes ? null : structuredClone(was), undo: [], neighbours };
-            deletes ? this.ask() : this.openForm();
+            deletes ? this.ask() : await this.openForm();
         }
     }
 
@@ -95,6 +96,9 @@ export class Editor {
 
     /** Takes the last point of what is drawn back. */
     takeBack() {
+        if (!this.draft.isDrawn) {
+            return;
+        }
         listsOf(this.draft.feature.geometry)[0].points.pop();
         Object.assign(this.draft.added ?? {}, { corner: null });
         this.draft.clicked = null;
@@ -118,21 +122,57 @@ export class Editor {
     /** Saves the draft as shape and form say, once it is known where its points are. */
     async save() {
         await this.draft.isExact;
-        return this.send(this.read());
+        return this.send(this.held(this.read(), this.draft.was));
     }
 
     /** Ends the drawing, if there are points enough. */
     finish() {
         if (this.draft?.isDrawn && isWhole(this.draft.feature.geometry)) {
             this.draft.isDrawn = false;
-            this.openForm();
+            return this.openForm();
         }
+        return undefined;
     }
 
-    openForm() {
-        const { feature, pieces, was, id } = this.draft;
-        this.draft.form = formOf(feature, this.layers().map(layer => layer.id).filter(name => !isOutline(name)), !was,
-            file => this.server.keep(file));
+    /** The layers of the map and those of the schema, which come first: of a new feature those that may get its kind of shape. */
+    layersToChoose({ geometry }, isNew) {
+        const { layers } = this.schema, own = this.layers().filter(({ id }) => !isOutline(id)), known = new Map(own.map(layer => [layer.id, layer]));
+        const named = isNew ? layersFor(layers, Object.keys(geometry)[0]) : [...layers.values()];
+        const first = named.map(({ name, title, zooms }) => ({ ...known.get(name), ...zooms, id: name, title }));
+        return [...first, ...own.filter(({ id }) => !named.some(({ name }) => name === id)).map(layer => ({ ...layer, title: layers.get(layer.id)?.title }))];
+    }
+
+    /** Gives a new feature a layer of the schema that may have it, if there is one, and the zooms of its layer. */
+    fit(feature, layers) {
+        const named = layers.filter(({ id }) => this.schema.layers.has(id)), layer = named.find(({ id }) => id === feature.layer) ?? named[0];
+        layer && Object.assign(feature, { layer: layer.id }, layer.minzoom === undefined ? {} : { minzoom: layer.minzoom, maxzoom: layer.maxzoom });
+    }
+
+    /** Why the schema refuses a feature in place of what it was (null: a new one) is an error. Returns it with values of the types of its fields. */
+    held(feature, was) {
+        const rules = this.schema.layers.get(feature.layer), before = was?.tags ?? null, onMap = this.layers().find(({ id }) => id === feature.layer);
+        if (!rules) {
+            return feature;
+        }
+        const tags = rules.fitted(feature.tags, before), known = { ...onMap?.fields, ...before };
+        const unknown = rules.unknown(tags).filter(tag => !Object.hasOwn(known, tag));
+        const fault = unknown.length ? missing(feature.layer, unknown) : rules.fault(before, tags, tag => rules.nameOf(tag));
+        if (fault) {
+            throw new Error(fault);
+        }
+        return { ...feature, tags };
+    }
+
+    /** Opens the form, by the schema as it is now. */
+    async openForm() {
+        const { draft } = this, { feature, pieces, was, id } = draft;
+        await this.schema.look();
+        if (draft !== this.draft) {
+            return;
+        }
+        const layers = this.layersToChoose(feature, !was);
+        was || this.fit(feature, layers);
+        draft.form = formOf(feature, layers, !was, file => this.server.keep(file), this.schema.layers);
         const shape = pieces ? texts.cutShape(pieces.length) : `${described(feature.geometry)}. ${texts.shapeHelp} ${texts.keysOfShape}`;
         const large = !pieces && isLarge(feature) ? [hint(texts.tooLarge)] : [];
         const along = element("input", { type: "checkbox", onchange: ({ target }) => this.bring(target.checked) });
@@ -242,7 +282,8 @@ export class Editor {
         const theirs = pieces ? changedOf(pieces, draft.pieces) : await this.server.feature(id);
         const mine = draft.feature && { ...draft.feature, ...(pieces && theirs ? { geometry: theirs.geometry } : {}) };
         Object.assign(draft, { was: theirs, theirs, sent: [], pieces: pieces && !theirs ? lost(draft.pieces) : pieces });
-        open(texts.changedByTwo((was ?? mine).layer, id), ...conflictOf({ was, theirs, mine }, chosen => this.send(chosen), () => this.drop()));
+        const save = chosen => this.send(chosen && this.held(chosen, theirs ?? was));
+        open(texts.changedByTwo((was ?? mine).layer, id), ...conflictOf({ was, theirs, mine }, save, () => this.drop()));
         tell(theirs ? texts.othersChanged : texts.othersDeleted, true);
         this.uncover(mine ?? was);
     }
@@ -260,12 +301,13 @@ export class Editor {
 
     /** Whether something would be lost if the draft were dropped. */
     get hasChanges() {
-        const { isDrawn, isSent, form, was } = this.draft ?? {};
+        const { isDrawn, isNew, isSent, form, was } = this.draft ?? {};
         if (isSent) {
             return true;
         }
         try {
-            return isDrawn ? pointsOf(this.draft.feature.geometry).length > 0 : Boolean(form) && canonical(this.read()) !== canonical(was);
+            // A drawing that has ended waits for the schema, and then for its form.
+            return isDrawn || isNew && !form ? pointsOf(this.draft.feature.geometry).length > 0 : Boolean(form) && canonical(this.read()) !== canonical(was);
         } catch {
             return true;
         }

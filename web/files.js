@@ -1,4 +1,5 @@
 // The features of a file that the page is given: GeoJSON, CSV, GPX or KML, by the rules of `vtmap import`, with longitudes and latitudes (WGS 84).
+import { Cut, cutOf } from "./cut.js";
 import { COLUMNS, NUMBER } from "./import_rules.js";
 import { texts } from "./texts.js";
 import { WORLD, fromDegrees, rounded } from "./world.js";
@@ -182,11 +183,15 @@ function placeIn(row, names, notes) {
     return geometryOf("points", [cells.map(cell => Number(cell.replace(",", ".")))], notes);
 }
 
-function csv(text, name, notes) {
+function csv(text, name, notes, isWhole) {
     const [head = [], ...rows] = rowsOf(text), known = new Map(head.map(column => [column.toLowerCase(), column]));
     const names = COLUMNS.find(pair => pair.every(column => known.has(column)))?.map(column => known.get(column));
     if (!names) {
         throw new Error(texts.noColumns(head.join(", ")));
+    }
+    const cut = isWhole ? null : cutOf(text, head.length);
+    if (cut) {
+        throw new Cut(cut);
     }
     return rows.map(cells => Object.fromEntries(cells.slice(0, head.length).map((cell, at) => [head[at], cell]))).map(row => ({
         layer: name, geometry: () => placeIn(row, names, notes), tags: () => Object.fromEntries(Object.entries(row).filter(([column]) => !names.includes(column))),
@@ -282,7 +287,7 @@ function fromXml(text, name, notes) {
 }
 
 /** The features of a text, by what it begins with. */
-function read(text, name, notes) {
+function read(text, name, notes, isWhole) {
     const first = text.trimStart()[0];
     if (first === "{") {
         try {
@@ -291,18 +296,19 @@ function read(text, name, notes) {
             throw fault instanceof SyntaxError ? new Error(texts.noGeojson) : fault;
         }
     }
-    return first === "<" ? fromXml(text, name, notes) : csv(text, name, notes);
+    return first === "<" ? fromXml(text, name, notes) : csv(text, name, notes, isWhole);
 }
 
 /**
- * The `features` of a file of this name, each with its layer, its geometry and its tags; the `notes` on what is dropped of how many of them; and what is
- * `refused`: the number of each in the file, and why. A file that can't be read is an error.
+ * The `features` of a file of this name, each with its number in it, its layer, its geometry and its tags; the `notes` on what is dropped of how many of
+ * them; and what is `refused`: the number of each in the file, and why. A file that can't be read is an error: a `Cut` if it has lost its end and nobody
+ * says that it `isWhole`.
  */
-export function featuresIn(fileName, bytes) {
+export function featuresIn(fileName, bytes, isWhole = false) {
     const notes = new Notes(), features = [], refused = [], name = fileName.replace(/\.[^.]*$/, "");
-    for (const [at, one] of read(textOf(bytes, notes), name, notes).entries()) {
+    for (const [at, one] of read(textOf(bytes, notes), name, notes, isWhole).entries()) {
         try {
-            features.push({ layer: one.layer, tags: one.tags(), geometry: one.geometry() });
+            features.push({ at: at + 1, layer: one.layer, tags: one.tags(), geometry: one.geometry() });
         } catch (fault) {
             if (fault instanceof Nowhere) {
                 notes.add(texts.import.nowhere);

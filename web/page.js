@@ -311,7 +311,7 @@ async function start() {
     print = new Print(view, server, style);
     editor = new Editor(view, server, () => layers, showEdit);
     history = new History(server, editor, leave);
-    drop = new Drop(view, server, () => layers, showEdit);
+    drop = new Drop(view, server, () => layers, editor.schema, showEdit);
     keys = new Keys(view, editor, select);
     Object.assign(byId("credit"), { textContent: style.backdrop?.credit ?? "", hidden: !style.backdrop?.credit });
     listen();

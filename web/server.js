@@ -7,6 +7,8 @@ import { texts } from "./texts.js";
 const MAY_NOT = [401, 403, 404];
 // Seconds without a reply after which none is awaited any more: nginx answers within 75.
 const PATIENCE = 80;
+// Seconds that a form waits for the schema.
+const SCHEMA_PATIENCE = 10;
 // Lists of edits that are asked for before all tiles are asked for instead.
 const MAX_LISTS = 4;
 
@@ -104,6 +106,13 @@ export class Server {
             throw texts.fileRefusals[status] ? new Refused(`${texts.fileRefusals[status]} (${status})`, status) : refusal(status, told);
         }
         return JSON.parse(told).path;
+    }
+
+    /** The schema of the map and its tag, or null if it still has the tag `known`. Without a gateway, or a schema of it, the schema is null. */
+    async schema(known) {
+        const headers = known ? { "If-None-Match": known } : {}, signal = AbortSignal.timeout(SCHEMA_PATIENCE * 1000);
+        const { status, tag, content } = await this.ask("pages/schema.json", { headers, signal });
+        return status === 304 ? null : { tag, schema: status === 200 ? parse(new TextDecoder().decode(content)) : null };
     }
 
     /** The tag of a tile that had the tag `known`; null without `--etags`. The tile itself isn't sent. */

@@ -78,6 +78,19 @@ const EN = {
     text: "text", number: "number", yesNo: "yes/no", yes: "yes", no: "no",
     noInteger: (what, shown) => `${what}: "${shown}" is no whole number`, twice: name => `two tags have the name ${name}`,
 
+    // The words of vtmap for what a schema refuses, and for a file that came short.
+    noType: { text: "no text", integer: "no integer", number: "no number", boolean: "no boolean", date: "no date" },
+    isNo: (name, value, noType) => `${name} is ${value}, ${noType}`, isNoChoice: (name, value, choices) => `${name} is ${value}: ${choices} is needed`,
+    oneOf: names => `one of ${names}`, isRequired: name => `${name} is required`,
+    noField: (layer, name, words) => `${layer} has no field ${name}: \`vtmap schema add ${words}\` makes it`,
+    noFields: (layer, names, words) => `${layer} has no field ${names}: \`vtmap schema add ${words}\` makes them`,
+    noFieldByHand: (layer, names) => `${layer} has no field ${names}: its schema.json may get it`,
+    requiredMark: "* is required", noDay: "half a day", otherLayer: "another layer …", putWithout: "Put them without these fields",
+    bySchema: (first, last, layer) => `${layer}: they are shown at zooms ${first} to ${last}, as the schema has it`,
+    seemsCut: (name, why) => `${name} seems to be cut: ${why}. Get all of it, or say that it is whole`, itIsWhole: "It is whole",
+    noLineEnd: text => `its last line has no end, and its first one has one (${text})`, noFieldEnd: text => `its last field has no end (${text})`,
+    tooFewFields: (count, columns, text) => `its last line has ${count} of the ${columns} fields of its head (${text})`,
+
     changedByTwo: (layer, id) => `Changed by two: ${layer} ${id}`,
     othersDeleted: "Somebody else has deleted this feature meanwhile.", othersChanged: "Somebody else has changed this feature meanwhile.",
     chooseParts: "Somebody else has changed this feature meanwhile. Nothing of yours is saved yet: choose for each part that differs.",
@@ -182,6 +195,18 @@ const DE = {
     },
     text: "Text", number: "Zahl", yesNo: "ja/nein", yes: "ja", no: "nein",
     noInteger: (what, shown) => `${what}: „${shown}“ ist keine ganze Zahl`, twice: name => `zwei Merkmale haben den Namen ${name}`,
+
+    noType: { text: "kein Text", integer: "keine ganze Zahl", number: "keine Zahl", boolean: "weder ja noch nein", date: "kein Datum" },
+    isNo: (name, value, noType) => `${name} ist ${value}, ${noType}`, isNoChoice: (name, value, choices) => `${name} ist ${value}: nötig ist ${choices}`,
+    oneOf: names => `eines von ${names}`, isRequired: name => `${name} ist nötig`,
+    noField: (layer, name, words) => `${layer} hat kein Feld ${name}: \`vtmap schema add ${words}\` legt es an`,
+    noFields: (layer, names, words) => `${layer} hat kein Feld ${names}: \`vtmap schema add ${words}\` legt sie an`,
+    noFieldByHand: (layer, names) => `${layer} hat kein Feld ${names}: seine schema.json kann es bekommen`,
+    requiredMark: "* ist nötig", noDay: "ein halbes Datum", otherLayer: "andere Ebene …", putWithout: "Ohne diese Felder anlegen",
+    bySchema: (first, last, layer) => `${layer}: zu sehen auf den Zoomstufen ${first} bis ${last}, wie das Schema es sagt`,
+    seemsCut: (name, why) => `${name} ist wohl abgeschnitten: ${why}. Ganz holen, oder sagen, dass sie vollständig ist`, itIsWhole: "Sie ist vollständig",
+    noLineEnd: text => `die letzte Zeile hat kein Ende, die erste hat eines (${text})`, noFieldEnd: text => `das letzte Feld hat kein Ende (${text})`,
+    tooFewFields: (count, columns, text) => `die letzte Zeile hat ${count} der ${columns} Felder der ersten (${text})`,
 
     changedByTwo: (layer, id) => `Von zweien geändert: ${layer} ${id}`,
     othersDeleted: "Jemand anderes hat dieses Objekt inzwischen gelöscht.", othersChanged: "Jemand anderes hat dieses Objekt inzwischen geändert.",

@@ -50,6 +50,7 @@ from clients.page_files import page_files  # noqa: E402
 from clients.page_hands import page_hands  # noqa: E402
 from clients.page_history import page_history  # noqa: E402
 from clients.page_print import page_print  # noqa: E402
+from clients.page_schema import page_schema  # noqa: E402
 from clients.page_tools import page_tools  # noqa: E402
 from clients.pages import page  # noqa: E402
 from clients.past import past  # noqa: E402
@@ -105,6 +106,7 @@ def main():
         "page-files": page_files,
         "page-history": page_history,
         "page-print": page_print,
+        "page-schema": page_schema,
         "page-photos": page_photos,
         "desktop": desktop,
         "checkins": checkins,

@@ -10,8 +10,8 @@ import { LANGUAGES, language, languageOf, texts } from "./web/texts.js";
 const WEB = new URL("web/", import.meta.url);
 // Modules that aren't of the page: texts themselves, and those of two pages of their own.
 const OTHERS = ["texts.js", "refusals.js", "import_rules.js", "features.js", "map.js", "maplibre.js"];
-// Literals that read like a text and are none: fields and methods of HTTP, names of keys, fonts; members of GeoJSON and elements of KML.
-const KNOWN = /^(Accept|Content-Type|ETag|If-None-Match|Range|Backspace|Enter|Escape|Delete|End|Home|Page(Up|Down)|Arrow\w+)$|^Changed\b|DejaVu/;
+// Literals that read like a text and are none: truths as Python writes them; fields and methods of HTTP, names of keys, fonts; members of GeoJSON and elements of KML.
+const KNOWN = /^(True|False|Accept|Content-Type|ETag|If-None-Match|Range|Backspace|Enter|Escape|Delete|End|Home|Page(Up|Down)|Arrow\w+)$|^Changed\b|DejaVu/;
 const OF_FILES = /^(Multi|Feature(Collection)?|LinearRing|ExtendedData|Data|SchemaData|SimpleData|Name|Folder, Document|Placemark|Files|GEOMETRYCOLLECTION)$/;
 // How a literal is handed to what shows it.
 const SHOWN = /\b(?:button|hint|open|tell|told|Error)\(\s*["`]([^"`]*[A-Za-z]{2}[^"`]*)["`]/g;
