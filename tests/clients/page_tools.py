@@ -32,6 +32,16 @@ COLOUR = """(() => {
     return [...data].slice(0, 3);
 })()"""
 
+# Counts how often a page draws paths and texts, and copies what is drawn, on any canvas.
+COUNT = """(() => {
+    window.counted = {};
+    for (const name of ["fill", "stroke", "fillText", "strokeText", "drawImage"]) {
+        const own = CanvasRenderingContext2D.prototype[name];
+        counted[name] = 0;
+        CanvasRenderingContext2D.prototype[name] = function (...words) { counted[name]++; return own.apply(this, words); };
+    }
+})()"""
+
 
 def parcel(column, row):
     """A ring around one of the parcels, each of which shares corners with its neighbours."""
@@ -104,11 +114,31 @@ class Tools(People):
         self.snaps()
         self.moves_along()
         self.long_texts()
+        self.drags()
         self.changed_tiles()
         self.unchanged_tiles(nginx)
         self.backdrop(nginx)
         told = [fault for fault in self.one.faults() if not fault.startswith("Failed to load resource")]
         self.show("the browser complains of nothing", told, [])
+
+    def drags(self):
+        """A drag of the map copies what is drawn, and draws no path and no text anew. Counts don't depend on how busy
+        the machine is, as the time of a frame does."""
+        made = self.opened(OPENED)
+        made.value(COUNT)
+        there, back = ((480, 400), (540, 440)), ((540, 440), (480, 400))
+        # What comes into view is drawn once.
+        for way in (there, back):
+            made.drag(*way)
+        time.sleep(1)
+        first = made.value("({...counted})")
+        for way in (there, back):
+            made.drag(*way)
+        time.sleep(1)
+        second = made.value("({...counted})")
+        grown = {name: second[name] - first[name] for name in second}
+        self.show("a drag copies what is drawn", grown["drawImage"] > 4, True)
+        self.show("and draws nothing anew", {**grown, "drawImage": 0}, dict.fromkeys(grown, 0))
 
     def colours(self):
         """Layers that the style doesn't name."""
