@@ -6,6 +6,7 @@ import gzip
 import json
 import os
 import subprocess
+import tempfile
 import threading
 from collections.abc import Callable
 from typing import Any, NamedTuple
@@ -181,7 +182,11 @@ class Teller:
     def runs(self, lines: bytes) -> bool:
         """Runs the command. Returns whether it ends well."""
         try:
-            child = subprocess.run(self.command, shell=True, input=lines, timeout=LONGEST, check=False)
+            # (from a file: of a pipe the command would get a part of a line, if this process is killed)
+            with tempfile.TemporaryFile() as file:
+                file.write(lines)
+                file.seek(0)
+                child = subprocess.run(self.command, shell=True, stdin=file, timeout=LONGEST, check=False)
         except subprocess.TimeoutExpired:
             self.say(f"--run: it hasn't ended after {LONGEST} s, and is told again in {self.pause} s")
             return False
