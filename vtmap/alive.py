@@ -10,14 +10,14 @@ import time
 ASKED = "/wfs?SERVICE=WFS&REQUEST=GetCapabilities"
 
 
-def tell(port, asked=ASKED):
+def tell(port: int, asked: str = ASKED) -> None:
     """Begins to ask this process by its port, if systemd waits to be told. It asks three times in the time after which systemd gives it up."""
     name, length = os.environ.get("NOTIFY_SOCKET"), os.environ.get("WATCHDOG_USEC", "")
     if name and length.isdecimal():
         threading.Thread(target=keep_telling, args=(name, int(length) / 3e6, port, asked), daemon=True).start()
 
 
-def keep_telling(name, seconds, port, asked):
+def keep_telling(name: str, seconds: float, port: int, asked: str) -> None:
     """Asks, and tells of each reply."""
     while True:
         if answers(port, seconds, asked):
@@ -25,7 +25,7 @@ def keep_telling(name, seconds, port, asked):
         time.sleep(seconds)
 
 
-def answers(port, seconds, asked):
+def answers(port: int, seconds: float, asked: str) -> bool:
     """Whether a reply comes in time, whatever it says."""
     connection = http.client.HTTPConnection("127.0.0.1", port, timeout=seconds)
     try:
@@ -38,7 +38,7 @@ def answers(port, seconds, asked):
         connection.close()
 
 
-def notify(name, message):
+def notify(name: str, message: bytes) -> None:
     """Sends a message to systemd. A name with an @ is one of the kernel's own space of names."""
     with socket.socket(socket.AF_UNIX, socket.SOCK_DGRAM) as to:
         try:

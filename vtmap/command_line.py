@@ -1,10 +1,13 @@
 """The command line of vtmap: one command of many, their common words, and how each ends."""
+from __future__ import annotations
+
 import argparse
 import errno
 import gc
 import importlib
 import os
 import sys
+from types import ModuleType
 
 from . import VERSION, systems
 from .ending import drop, told
@@ -55,11 +58,11 @@ if it was interrupted; `vtmap watch` ends as monitors expect it (0 nothing to do
 class Help(argparse.RawDescriptionHelpFormatter):
     """Help of a width of its own, since descriptions are written for it."""
 
-    def __init__(self, prog):
+    def __init__(self, prog: str) -> None:
         super().__init__(prog, max_help_position=28, width=140)
 
 
-def parser_of(name, module):
+def parser_of(name: str, module: ModuleType) -> argparse.ArgumentParser:
     """The parser of a command."""
     made = argparse.ArgumentParser(prog=f"vtmap {name}", description=module.ABOUT[name], formatter_class=Help)
     module.options(made, name)
@@ -67,7 +70,7 @@ def parser_of(name, module):
     return made
 
 
-def asked(words):
+def asked(words: list[str]) -> tuple[ModuleType, argparse.Namespace]:
     """The command, its module, and what its words say."""
     top = argparse.ArgumentParser(prog="vtmap", description=ABOUT, formatter_class=Help, usage="vtmap [--url URL] COMMAND ..", add_help=True)
     top.add_argument("--url", help=argparse.SUPPRESS)
@@ -88,13 +91,13 @@ def asked(words):
     return module, found
 
 
-def collect_rarely():
+def collect_rarely() -> None:
     """Has Python look for cycles of objects rarely. Values of JSON have none, 40,000 features are 600,000 objects, and looking as often as Python does by
     itself takes half the time in which they are read."""
     gc.set_threshold(1_000_000, 50, 100)
 
 
-def main(line):
+def main(line: list[str]) -> int:
     """Runs a command. Returns its status."""
     systems.prepare_consoles((sys.stdout, sys.stderr))
     module, words = asked(line)

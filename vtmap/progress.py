@@ -5,12 +5,13 @@ import os
 import threading
 import time
 from collections.abc import Iterable, Iterator
-from typing import Any
+from typing import Any, TypeVar
 
 from .faults import Fault
 from .shown import shown
 
 EACH = 1000
+T = TypeVar("T")
 # How many seconds a publication is waited for before it is asked how far it is, and then between two such questions; and between two lines about
 # many rows. Fewer rows than `EACH` are told of only if they take long.
 PAUSE, LONG = 2, 10
@@ -18,7 +19,7 @@ PAUSE, LONG = 2, 10
 LARGE = 32 * 2 ** 20
 
 
-def with_progress(changes: Iterable, total: int | None = None) -> Iterator:
+def with_progress(changes: Iterable[T], total: int | None = None) -> Iterator[T]:
     """Passes on what `Client.make` yields, and prints a line for each thousand changes. `total`: how many there will be."""
     of = f" of {total:,}" if total else ""
     began = time.monotonic()
@@ -28,7 +29,7 @@ def with_progress(changes: Iterable, total: int | None = None) -> Iterator:
             print(f"        {done:,}{of} sent so far, {done / max(time.monotonic() - began, 0.001):,.0f} a second", flush=True)
 
 
-def counted(rows: Iterable, what: str, total: int | None = None) -> Iterator:
+def counted(rows: Iterable[T], what: str, total: int | None = None) -> Iterator[T]:
     """Passes rows on, and prints every two seconds how many there were, if they are many or take long. `total`: how many there will be."""
     began = told = time.monotonic()
     of = f" of {total:,}" if total else ""

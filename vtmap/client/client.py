@@ -15,15 +15,18 @@ import operator
 import re
 import select
 import urllib.parse
+from collections.abc import Generator, Iterable, Iterator
 from dataclasses import dataclass
+from typing import Any, Optional, Tuple
 
 from ..faults import NoAnswer, Stopped
+from ..forms import Feature, ListedChange, ListedFeature, Reply, Status, id_of
 from ..geometry.wholes import PIECE
 from ..limits import MOST_CHANGES, NUMBER_END
 from ..shown import shown
 from . import followers
 from .address import address
-from .edits import NOTHING, batches, body_of, delete, encoded, fits
+from .edits import NOTHING, Change, batches, body_of, delete, encoded, fits
 from .refusals import FINAL, NO_ROOM, STATUSES, WORDS, WRONG_PASSWORD, told
 from .rows import Request, in_a_row
 
@@ -61,10 +64,14 @@ class Refusal:
 
     text: str
     is_conflict: bool = False
-    now: dict | None = None
+    now: Feature | None = None
 
-    def __str__(self):
+    def __str__(self) -> str:
         return self.text
+
+
+# A change with its refusal, None if it is made.
+Made = Tuple[Change, Optional[Refusal]]
 
 
 class Client:
@@ -74,22 +81,23 @@ class Client:
 
     longest = 600
 
-    def __init__(self, url, publishes=False, most=MOST_CHANGES):
+    def __init__(self, url: str, publishes: bool = False, most: int = MOST_CHANGES) -> None:
         self.publishes, self.most = publishes, most
         self.url, self.person = address(url)
         self.address = urllib.parse.urlunsplit(self.url).rstrip("/")
-        self.connection = self.tag_of_reply = None
-        # The request that is sent, and whose reply isn't read yet.
-        self.ahead = None
+        self.connection: http.client.HTTPConnection | None = None
+        self.tag_of_reply: str | None = None
+        # The method and the path of the request that is sent, and whose reply isn't read yet.
+        self.ahead: tuple[str, str] | None = None
         # Whether a batch has been accepted; the first change of those that were sent last and aren't known to be made.
         self.has_batches = False
-        self.last = None
+        self.last: int | None = None
         # The numbers of the edits that were made.
         self.made = []
         # The number of the last edit that is known of, and whether the server lists features by pages, as far as is known.
         self.edits, self.has_pages = 0, True
 
-    def twin(self):
+    def twin(self) -> Client:
         """Another client of the same server, with a connection of its own."""
         twin = Client(self.address)
         twin.person = self.person
@@ -97,7 +105,7 @@ class Client:
 
     # ---- requests
 
-    def ask(self, method, path, body=b"", fields=None):
+    def ask(self, method: str, path: str, body: bytes = b"", fields: dict[str, str] | None = None) -> Reply:
         """The status and the content of the reply to one request. On a kept connection that the server has closed it is sent again if it only
         reads; what changes something may have been done (`Lost`)."""
         fields = {**self.person, **(fields or ({"Content-Type": "application/json"} if body else {}))}
@@ -111,7 +119,7 @@ class Client:
                 raise
         return self.once(method, path, body, fields)
 
-    def once(self, method, path, body, fields):
+    def once(self, method: str, path: str, body: bytes, fields: dict[str, str]) -> Reply:
         """The status and the content of the reply to a request that is sent once."""
         is_sent = False
         try:
@@ -130,7 +138,7 @@ class Client:
             self.close()
             raise
 
-    def ask_in_a_row(self, requests):
+    def ask_in_a_row(self, requests: Iterable[tuple[str, str, bytes]]) -> Generator[Reply, None, None]:
         """The statuses and contents of the replies to several requests with JSON, each of which is sent before the replies to those before it have
         come. A request is its method, its path and its body. If a reply doesn't come (`Lost`), any of those left may have been done."""
         if self.connection and (self.ahead or is_ended(self.connection)):
@@ -143,21 +151,21 @@ class Client:
             self.close()
             raise Lost(f"no reply of {self.address}: {fault}") from fault
 
-    def connect(self):
+    def connect(self) -> http.client.HTTPConnection:
         """Opens a connection, and returns it. It takes no minutes, as what is asked for may."""
         kind = http.client.HTTPSConnection if self.url.scheme == "https" else http.client.HTTPConnection
-        self.connection = kind(self.url.netloc, timeout=30)
-        self.connection.connect()
-        self.connection.sock.settimeout(self.longest)
-        return self.connection
+        self.connection = connection = kind(self.url.netloc, timeout=30)
+        connection.connect()
+        connection.sock.settimeout(self.longest)
+        return connection
 
-    def close(self):
+    def close(self) -> None:
         """Ends the kept connection."""
         if self.connection:
             self.connection.close()
         self.connection = self.ahead = None
 
-    def send_ahead(self, path):
+    def send_ahead(self, path: str) -> None:
         """Sends a GET whose reply is read when it is asked for: meanwhile the server makes it. Any other request gives it up."""
         if self.connection and not is_ended(self.connection):
             try:
@@ -166,17 +174,17 @@ class Client:
             except (OSError, http.client.HTTPException):
                 self.close()
 
-    def tag(self, path):
+    def tag(self, path: str) -> str | None:
         """The entity tag of what is at a path, or None."""
         self.ask("HEAD", path)
         return self.tag_of_reply
 
-    def found(self, path):
+    def found(self, path: str) -> Any:
         """The JSON of a reply 200, or None of the server's own reply 404."""
         content = self.content(path)
         return None if content is None else self.value(content)
 
-    def content(self, path):
+    def content(self, path: str) -> bytes | None:
         """The content of a reply 200, or None of the server's own reply 404."""
         status, content = self.ask("GET", path)
         if status == 200:
@@ -186,34 +194,35 @@ class Client:
             raise Stopped(f"GET {path}: {status} {word(content)}")
         return None
 
-    def status(self):
+    def status(self) -> Status | None:
         """What the server tells of itself, or None if it says itself that it has no such path: it runs without --admin."""
         status = self.found("/admin/status")
         if status is not None:
             self.edits = status.get("edits", 0)
         return status
 
-    def value(self, content):
+    def value(self, content: bytes) -> Any:
         """The JSON of a reply."""
         try:
             return json.loads(content)
         except ValueError as fault:
             raise Stopped(f"what answers at {self.address} is no vtserve: is --url right?") from fault
 
-    def feature(self, number):
+    def feature(self, number: int) -> Feature | None:
         """A feature of the map, or None."""
         return self.found(f"/features/{number}")
 
-    def features(self, first=0, end=NUMBER_END):
+    def features(self, first: int = 0, end: int = NUMBER_END) -> Iterator[tuple[int, Feature]]:
         """Each feature of the map with its id, from a first id to one before the end, in ascending order. While those of a page are read, the
         server makes the next page: it may lack an edit that is made meanwhile."""
-        while first is not None and first < end:
-            rows, first = self.page(first, end)
+        following: int | None = first
+        while following is not None and following < end:
+            rows, following = self.page(following, end)
             if rows and rows[-1]["id"] >= end:
-                rows, first = [row for row in rows if row["id"] < end], None
+                rows, following = [row for row in rows if row["id"] < end], None
             yield from map(ID_AND_FEATURE, rows)
 
-    def page(self, first, end):
+    def page(self, first: int, end: int) -> tuple[list[ListedFeature], int | None]:
         """The features from an id on that one reply has, and the id of the next one, None if there is none. An older server has one in a reply.
         If that id is before the end, the next page is asked for before this one is parsed."""
         if self.has_pages:
@@ -228,7 +237,7 @@ class Client:
         row = self.found(f"{FROM}/{first}")
         return ([], None) if row is None else ([row], row["id"] + 1)
 
-    def next_id(self, status):
+    def next_id(self, status: Status) -> int:
         """The id after the greatest one in use. Where pieces of cut features have ids above 2^40, those are left out."""
         last = status["last"]
         if last is None or last < PIECE - 1:
@@ -245,11 +254,11 @@ class Client:
 
     # ---- publications
 
-    def post(self, path):
+    def post(self, path: str) -> Reply:
         """The reply to a step of a publication, which is sent once."""
         return self.ask("POST", path)
 
-    def publish(self):
+    def publish(self) -> None:
         """Publishes by steps, which frees the journal. A publication that is under way is finished first, whoever began it. It waits for who
         follows the edits: the last step takes those up to its beginning out of their list."""
         status, content = self.post("/publish/begin")
@@ -261,7 +270,7 @@ class Client:
         self.wait()
         self.finish(left)
 
-    def wait(self):
+    def wait(self) -> None:
         """Waits for who follows the edits, as the environment says."""
         length, standbys, logs = followers.said()
         wait = followers.Wait(length, [Client(url) for url in standbys], logs)
@@ -269,7 +278,7 @@ class Client:
             status = self.status()
             wait.wait(status["edits"] if status else 0)
 
-    def step(self):
+    def step(self) -> Reply:
         """The reply to a step of a publication. If none comes, the next step goes on where that one ended, or finds nothing left to do."""
         for _ in range(TRIES - 1):
             try:
@@ -278,7 +287,7 @@ class Client:
                 continue
         return self.post("/publish/step")
 
-    def finish(self, left=None):
+    def finish(self, left: int | None = None) -> None:
         """Does the steps that are left of a publication. Somebody else may do some of them meanwhile."""
         while left is None or left > 0:
             status, content = self.step()
@@ -286,7 +295,7 @@ class Client:
                 return
             left = self.left(status, content)
 
-    def left(self, status, content):
+    def left(self, status: int, content: bytes) -> int:
         """The sectors that are left after a step."""
         if status != 200:
             self.stop_at(status, content)
@@ -295,13 +304,13 @@ class Client:
 
     # ---- edits
 
-    def make(self, changes):
+    def make(self, changes: Iterable[Change]) -> Iterator[Made]:
         """Makes changes in their order. Yields each with its refusal, which is None if it is made."""
         for group in batches(changes, self.most):
             self.last = group[0].number
             yield from self.make_plain(group) if group[0].was is None else self.make_checked(group)
 
-    def make_checked(self, group):
+    def make_checked(self, group: list[Change]) -> Iterator[Made]:
         """Makes checked changes as one edit. Changes whose feature somebody else has changed are left out, and are conflicts."""
         while group:
             if len(group) == 1 and not fits(group[0]):
@@ -327,7 +336,7 @@ class Client:
                 yield from self.make_checked([change])
             return
 
-    def make_large(self, change):
+    def make_large(self, change: Change) -> Refusal | None:
         """Makes a change that is too large for a request beside what its author saw: the feature is deleted, then put as a new one."""
         removal = delete(change.number)._replace(was=change.was)
         if change.was == NOTHING or not fits(removal):
@@ -339,19 +348,19 @@ class Client:
                 self.alone(change._replace(body=change.was, was=NOTHING))
         return refused
 
-    def alone(self, change):
+    def alone(self, change: Change) -> Refusal | None:
         """Makes one checked change. Returns its refusal."""
         (_, refused), = self.make_checked([change])
         return refused
 
-    def make_plain(self, group):
+    def make_plain(self, group: list[Change]) -> Iterator[Made]:
         """Makes changes as one edit, whatever the map has of their features; one by one if the server refuses them together."""
         is_made = len(group) > 1 and self.is_made(group)
         for change in group:
             self.last = change.number
             yield change, None if is_made else self.make_alone(change)
 
-    def make_alone(self, change):
+    def make_alone(self, change: Change) -> Refusal | None:
         """Makes one change alone. Returns its refusal."""
         method, body = ("DELETE", b"") if change.body is None else ("PUT", change.body)
         status, content = self.send(method, f"/features/{change.number}", body, [change])
@@ -360,7 +369,7 @@ class Client:
         self.stop_at(status, content)
         return refusal(status, content, len(body))
 
-    def is_made(self, group):
+    def is_made(self, group: list[Change]) -> bool:
         """Whether a batch is made. If it isn't, nothing is changed, and each of its changes is to be sent alone."""
         if self.most == 1:
             return False
@@ -374,14 +383,14 @@ class Client:
             self.stop_at(status, content)
         return status == 200
 
-    def knows_edits(self):
+    def knows_edits(self) -> bool:
         """Whether the server has the path of batches: 404 may also speak of a feature that is to be deleted. A batch of no change is asked for."""
         if not self.has_batches:
             status, content = self.ask("POST", PLAIN, body_of([]))
             self.has_batches = status == 400 and content.startswith(b"E10")
         return self.has_batches
 
-    def send(self, method, path, body, group):
+    def send(self, method: str, path: str, body: bytes, group: list[Change]) -> Reply:
         """Status and content of the reply to an edit of these changes. If the journal is full, it is sent again after a publication."""
         status, content = self.deliver(method, path, body, group)
         if status == 507 and content.startswith(b"JournalFull") and self.publishes:
@@ -393,7 +402,7 @@ class Client:
             self.edits = max(self.edits, self.made[-1])
         return status, content
 
-    def deliver(self, method, path, body, group):
+    def deliver(self, method: str, path: str, body: bytes, group: list[Change]) -> Reply:
         """Status and content of the reply to an edit. If none comes, and the edit wasn't made, it is sent again."""
         for _ in range(TRIES):
             try:
@@ -406,7 +415,7 @@ class Client:
 
     # ---- edits without a reply
 
-    def made_as(self, group, fault):
+    def made_as(self, group: list[Change], fault: Lost) -> int | None:
         """The number of an edit whose reply didn't come, None if it wasn't made. Raises `Lost` if that isn't known."""
         before, status = self.edits, self.status()
         if status is not None and status["edits"] == before:
@@ -423,7 +432,7 @@ class Client:
             raise Lost(f"{fault}, and whether the edit of feature {group[0].number} was made isn't known: look at it on the map") from fault
         return None
 
-    def listed_from(self, first):
+    def listed_from(self, first: int) -> list[tuple[int, dict[int, bytes | None]]] | None:
         """The numbers and the changes of the edits from a number on, as far as the server lists edits; None if it doesn't."""
         found = []
         while True:
@@ -435,7 +444,7 @@ class Client:
             if not reply["edits"] or found[-1][0] >= reply["last"]:
                 return found
 
-    def stop_at(self, status, content):
+    def stop_at(self, status: int, content: bytes) -> None:
         """Stops at a refusal that every further request would get."""
         first = word(content)
         name = first.split(" ")[0]
@@ -447,24 +456,24 @@ class Client:
             raise Stopped(f"{status} ({told(STATUSES[status])})")
 
 
-def is_ended(connection):
+def is_ended(connection: http.client.HTTPConnection) -> bool:
     """Whether a server has closed a connection on which nothing is awaited."""
     return connection.sock is None or bool(select.select([connection.sock], [], [], 0)[0])
 
 
-def changes_in(listed):
+def changes_in(listed: Iterable[ListedChange]) -> dict[int, bytes | None]:
     """The features that a listed edit puts, as JSON by their ids, and None for those that it deletes."""
-    return {change.get("put", change.get("delete")): encoded(change["feature"]) if "put" in change else None for change in listed}
+    return {id_of(change): encoded(change["feature"]) if "put" in change else None for change in listed}
 
 
-def conflict(change, now):
+def conflict(change: Change, now: Feature | None) -> Refusal | None:
     """The refusal of a change whose feature isn't as its author saw it; None if it is as the change makes it, so the change is made."""
     if (now is None and change.body is None) or (now is not None and encoded(now) == change.body):
         return None
     return Refusal("somebody else has deleted it meanwhile" if now is None else "somebody else has changed it meanwhile", True, now)
 
 
-def word(content):
+def word(content: bytes) -> str:
     """The first line of a refusal: a word of the server, or what a proxy says, without its HTML."""
     text = content.decode("utf-8", "replace").strip()
     if text.startswith("<"):
@@ -473,7 +482,7 @@ def word(content):
     return shown(text.splitlines()[0]) if text else ""
 
 
-def refusal(status, content, length):
+def refusal(status: int, content: bytes, length: int) -> Refusal:
     """A refusal with its cause."""
     first = word(content)
     if first in WORDS:

@@ -7,10 +7,10 @@ their limits allow; `client.py` sends them.
 from __future__ import annotations
 
 import json
-from collections import namedtuple
 from collections.abc import Iterable, Iterator
-from typing import Any
+from typing import Any, NamedTuple
 
+from ..forms import Feature, Value
 from ..limits import MOST_BODY, MOST_CHANGES, MOST_TEXT, PART
 
 # The bytes of a deletion in an edit's text.
@@ -22,9 +22,16 @@ FRAME = b'{"changes":[%s]}'
 FRAME_BYTES = len(FRAME % b"") - 1
 NOTHING = b"null"
 
-# The id of a feature, its JSON (None if it is deleted), the bytes of the change's text (docs/FORMATS.md, "The edit text"), and the JSON of
-# what its author saw of the feature (`null` for none), or None if that isn't to be looked at.
-Change = namedtuple("Change", "number body text was", defaults=(None,))
+
+class Change(NamedTuple):
+    """The id of a feature, its JSON (None if it is deleted), the bytes of the change's text (docs/FORMATS.md,
+    "The edit text"), and the JSON of what its author saw of the feature (`null` for none), or None if that isn't to be
+    looked at."""
+
+    number: int
+    body: bytes | None
+    text: int
+    was: bytes | None = None
 
 
 def encoded(value: Any) -> bytes:
@@ -32,7 +39,7 @@ def encoded(value: Any) -> bytes:
     return json.dumps(value, ensure_ascii=False, separators=(",", ":"), sort_keys=True).encode()
 
 
-def text_bytes(feature: dict[str, Any]) -> int:
+def text_bytes(feature: Feature) -> int:
     """The bytes of a feature in the journal and in the snapshot."""
     (kind, lists), = feature["geometry"].items()
     chains = [lists] if kind == "points" else lists if kind == "lines" else [ring for rings in lists for ring in rings]
@@ -41,14 +48,14 @@ def text_bytes(feature: dict[str, Any]) -> int:
     return 14 + len(feature["layer"].encode()) + 2 * counts + 8 * sum(map(len, chains)) + tags
 
 
-def value_bytes(value: bool | int | str) -> int:
+def value_bytes(value: Value) -> int:
     """The bytes of a tag's value, without its kind."""
     if isinstance(value, bool):
         return 0
     return 2 + len(value.encode()) if isinstance(value, str) else 8
 
 
-def put(number: int, feature: dict[str, Any]) -> Change:
+def put(number: int, feature: Feature) -> Change:
     """The change that puts a feature."""
     return Change(number, encoded(feature), text_bytes(feature))
 
@@ -58,7 +65,7 @@ def delete(number: int) -> Change:
     return Change(number, None, DELETE_BYTES)
 
 
-def checked(change: Change, was: dict[str, Any] | None) -> Change:
+def checked(change: Change, was: Feature | None) -> Change:
     """The change, to be made only if the map still has this feature, or none if it is None."""
     return change._replace(was=encoded(was))
 

@@ -7,6 +7,7 @@ import time
 
 from ..client.client import Client
 from ..faults import Fault, Refused
+from ..forms import Status
 from ..machine.machine import CLOSED, FRONT, Machine, unit_of
 
 ABOUT = {"takeover": """Makes the standby on this machine the server that people edit, after the first machine is gone. Run it as root, here.
@@ -47,7 +48,7 @@ def leader_of(unit: str, text: str) -> str:
     return found[1]
 
 
-def known(client: Client) -> dict:
+def known(client: Client) -> Status:
     """What the server here tells of itself, if it can be taken over."""
     status = client.status()
     if status is None:
