@@ -1,31 +1,37 @@
 """Cuts shapes in the units of the map into pieces that every renderer draws right. Needs GDAL's Python module."""
+from __future__ import annotations
+
 import math
+from collections.abc import Sequence
+from typing import List, Tuple
 
 from osgeo import ogr
 
 from ..limits import MOST_BODY, MOST_REACH, MOST_TEXT
-from .shapes import MOST_WORK, Unfit, bounds, chains, count, list_count, reach, wrong_zooms
+from .shapes import MOST_WORK, Shape, Unfit, bounds, chains, count, list_count, reach, wrong_zooms
 from .wholes import twice_area
 from .world import WORLD
 
 MOST_PIECES = 20000
+Point = Tuple[float, float]
+Polygon = List[List[Point]]
 # Bytes of the JSON of a point: `[4294967295,4294967295],`.
 POINT_BYTES = 24
 
 
-def cut_points(points, axis, at):
+def cut_points(points: list[Point], axis: int, at: float) -> tuple[list[Point], list[Point]]:
     """The points before a coordinate, and those from it on."""
     return [point for point in points if point[axis] < at], [point for point in points if point[axis] >= at]
 
 
-def crossing(one, other, axis, at):
+def crossing(one: Point, other: Point, axis: int, at: float) -> Point:
     """Where a segment meets a coordinate."""
     share = (at - one[axis]) / (other[axis] - one[axis])
     place = one[1 - axis] + share * (other[1 - axis] - one[1 - axis])
     return (at, place) if axis == 0 else (place, at)
 
 
-def one_side(line, axis, at, side):
+def one_side(line: list[Point], axis: int, at: float, side: int) -> list[list[Point]]:
     """The parts of a line before a coordinate (side -1) or after it (1). What lies on it is before it."""
     found, run = [], []
     for one, other in zip(line, line[1:]):
@@ -47,7 +53,7 @@ def one_side(line, axis, at, side):
     return [*found, run] if run else found
 
 
-def ogr_of(lists):
+def ogr_of(lists: list[Polygon]) -> ogr.Geometry:
     """Polygons as a geometry of GDAL."""
     made = ogr.Geometry(ogr.wkbMultiPolygon)
     for rings in lists:
@@ -61,7 +67,7 @@ def ogr_of(lists):
     return made
 
 
-def lists_of(geometry):
+def lists_of(geometry: ogr.Geometry | None) -> list[Polygon]:
     """The polygons in a geometry of GDAL: what only touches a cut isn't one."""
     if geometry is None:
         return []
@@ -71,7 +77,7 @@ def lists_of(geometry):
     return [polygon for at in range(geometry.GetGeometryCount()) for polygon in lists_of(geometry.GetGeometryRef(at))]
 
 
-def valid(lists):
+def valid(lists: list[Polygon]) -> list[Polygon]:
     """Polygons that can be cut: GDAL repairs those whose rings cross."""
     geometry = ogr_of(lists)
     if geometry.IsValid():
@@ -82,7 +88,7 @@ def valid(lists):
     return lists_of(geometry)
 
 
-def cut_polygons(lists, axis, at):
+def cut_polygons(lists: list[Polygon], axis: int, at: float) -> tuple[list[Polygon], list[Polygon]]:
     """The parts of polygons before and after a coordinate."""
     before, after, across = [], [], []
     for rings in lists:
@@ -100,19 +106,21 @@ def cut_polygons(lists, axis, at):
     return before, after
 
 
-def cut(shape, axis, at):
+def cut(shape: Shape, axis: int, at: float) -> tuple[Shape | None, Shape | None]:
     """The two parts of a shape on either side of a coordinate: None for one that has nothing."""
     kind, lists = shape
+    before: list
+    after: list
     if kind == "points":
-        found = cut_points(lists, axis, at)
+        before, after = cut_points(lists, axis, at)
     elif kind == "polygons":
-        found = cut_polygons(lists, axis, at)
+        before, after = cut_polygons(lists, axis, at)
     else:
-        found = tuple([part for line in lists for part in one_side(line, axis, at, side)] for side in (-1, 1))
-    return tuple((kind, part) if part else None for part in found)
+        before, after = ([part for line in lists for part in one_side(line, axis, at, side)] for side in (-1, 1))
+    return (kind, before) if before else None, (kind, after) if after else None
 
 
-def unwrapped(chain):
+def unwrapped(chain: Sequence[Point]) -> list[Point]:
     """The points of a line or ring that crosses the 180th meridian, without the jump from one edge of the world to the other."""
     made, turn = [chain[0]], 0
     for (before, _), (x, y) in zip(chain, chain[1:]):
@@ -123,13 +131,13 @@ def unwrapped(chain):
     return made
 
 
-def on_the_world(shape):
+def on_the_world(shape: Shape) -> tuple[Shape, bool]:
     """The shape cut at the 180th meridian and at the edges of the world, and whether it crossed the meridian."""
     kind, lists = shape
     if kind == "points":
         return shape, False
     if kind == "lines":
-        open_lists = [unwrapped(line) for line in lists]
+        open_lists: list = [unwrapped(line) for line in lists]
     else:
         open_lists = []
         for rings in lists:
@@ -142,12 +150,11 @@ def on_the_world(shape):
                 away = round((middle - ring[0][0]) / WORLD) * WORLD
                 closed[at] = [(x + away, y) for x, y in ring]
             open_lists.append([ring[:-1] for ring in closed])
-    open_shape = (kind, open_lists)
-    west, north, east, south = bounds(open_shape)
+    unwrapped_shape: Shape = (kind, open_lists)
+    west, north, east, south = bounds(unwrapped_shape)
     if west >= -1 and east <= WORLD + 1 and north >= -1 and south <= WORLD + 1:
-        return open_shape, False
-    if kind == "polygons":
-        open_shape = (kind, valid(open_lists))
+        return unwrapped_shape, False
+    open_shape: Shape | None = (kind, valid(open_lists)) if kind == "polygons" else unwrapped_shape
     for at, side in ((0, 1), (WORLD, 0)):
         if open_shape is not None and not -1 <= bounds(open_shape)[1 + 2 * (1 - side)] <= WORLD + 1:
             open_shape = cut(open_shape, 1, at)[side]
@@ -155,7 +162,7 @@ def on_the_world(shape):
         raise Unfit("nothing of it is inside of the world (180 degrees east and west, 85.05 north and south)")
     found = []
     for turn in range(math.floor((west + 1) / WORLD), math.ceil((east - 1) / WORLD)):
-        part = open_shape
+        part: Shape | None = open_shape
         for at, side in ((turn * WORLD, 1), ((turn + 1) * WORLD, 0)):
             part = part and cut(part, 0, at)[side]
         if part:
@@ -165,7 +172,7 @@ def on_the_world(shape):
     return (kind, found), west < -1 or east > WORLD + 1
 
 
-def moved(shape, east):
+def moved(shape: Shape, east: float) -> Shape:
     """The shape moved along the equator."""
     kind, lists = shape
     if kind == "lines":
@@ -181,19 +188,19 @@ class Cutter:
     in one cell.
     """
 
-    def __init__(self, zooms, split_zoom=None):
+    def __init__(self, zooms: Sequence[int], split_zoom: int | None = None) -> None:
         self.zooms = zooms
         self.cuts_cells = split_zoom is not None
         self.side = 2 ** (32 - (zooms[-1] if split_zoom is None else split_zoom))
 
-    def fits(self, shape, text, body):
+    def fits(self, shape: Shape, text: int, body: int) -> bool:
         """Whether the server takes a shape with so many bytes of other members, in text and in JSON."""
         points, lists = count(shape), list_count(shape)
         tiles = reach(bounds(shape), self.zooms)
         small = 8 * points + 2 * lists + text <= MOST_TEXT and POINT_BYTES * points + 4 * lists + body <= MOST_BODY
         return small and tiles <= MOST_REACH and points * tiles <= MOST_WORK
 
-    def about(self, shape, many):
+    def about(self, shape: Shape, many: int) -> int:
         """About how many pieces a shape is cut into, if that may be as many as `many`: the cells inside of it, and those that its edges cross."""
         if shape[0] == "points":
             return 1
@@ -205,7 +212,7 @@ class Cutter:
         area = sum(abs(twice_area(rings[0])) for rings in shape[1]) / 2 if shape[0] == "polygons" else 0
         return math.ceil(min(cells, area / self.side ** 2 + length / self.side))
 
-    def pieces(self, shape, text, body):
+    def pieces(self, shape: Shape, text: int, body: int) -> list[Shape]:
         """The pieces of a shape: itself if it needs no cut."""
         if self.is_done(shape, text, body):
             return [shape]
@@ -215,10 +222,10 @@ class Cutter:
         self.cut_into(found, shape, text, body)
         return found
 
-    def is_done(self, shape, text, body):
+    def is_done(self, shape: Shape, text: int, body: int) -> bool:
         return self.fits(shape, text, body) and not wrong_zooms(shape, self.zooms)
 
-    def cut_into(self, found, shape, text, body):
+    def cut_into(self, found: list[Shape], shape: Shape, text: int, body: int) -> None:
         """Adds the pieces of a shape."""
         place = self.best_cut(shape)
         if self.is_done(shape, text, body) and (place is None or not self.cuts_cells):
@@ -234,7 +241,7 @@ class Cutter:
         if len(found) > MOST_PIECES:
             raise Unfit(f"it would be cut into over {MOST_PIECES:,} pieces: end it at a smaller --maxzoom")
 
-    def best_cut(self, shape):
+    def best_cut(self, shape: Shape) -> tuple[int, int] | None:
         """The axis and the coordinate of the cut nearest to the middle of a shape, on its longer side; None if it is inside of a cell."""
         west, north, east, south = bounds(shape)
         sides = sorted(((east - west, 0, west, east), (south - north, 1, north, south)), reverse=True)
@@ -247,13 +254,13 @@ class Cutter:
         return None
 
 
-def middle_cut(shape):
+def middle_cut(shape: Shape) -> tuple[int, int] | None:
     """The axis and the coordinate of a cut through the middle of a shape that has too many points."""
     west, north, east, south = bounds(shape)
     axis, least, greatest = (0, west, east) if east - west >= south - north else (1, north, south)
     return (axis, math.floor((least + greatest) / 2)) if greatest - least > 4 else None
 
 
-def outline(shape):
+def outline(shape: Shape) -> Shape:
     """The rings of polygons as lines."""
     return "lines", [[*ring, ring[0]] for rings in shape[1] for ring in rings]

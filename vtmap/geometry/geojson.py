@@ -1,10 +1,11 @@
 """Features of the map as features of GeoJSON, and back. Needs no package."""
 from typing import Any
 
+from ..forms import Feature, Geometry
 from .world import degrees, world
 
 
-def geojson_of(number: int, feature: dict[str, Any]) -> dict[str, Any]:
+def geojson_of(number: int, feature: Feature) -> dict[str, Any]:
     """A feature of the map as one of GeoJSON, its rings in their directions."""
     (kind, parts), = feature["geometry"].items()
     places: list
@@ -19,12 +20,12 @@ def geojson_of(number: int, feature: dict[str, Any]) -> dict[str, Any]:
     return {"type": "Feature", "id": number, **rest, "properties": feature["tags"], "geometry": geometry}
 
 
-def feature_of(row: dict[str, Any]) -> dict[str, Any]:
+def feature_of(row: dict[str, Any]) -> Feature:
     """The body of a PUT, from a feature that `geojson_of` made."""
     name, places = row["geometry"]["type"], row["geometry"]["coordinates"]
     if not name.startswith("Multi"):
         places = [places]
-    geometry: dict[str, list]
+    geometry: Geometry
     if name.endswith("Point"):
         geometry = {"points": [world(place) for place in places]}
     elif name.endswith("LineString"):

@@ -3,11 +3,16 @@
 Coordinates are those of `geopackage.py`: EPSG:3857, the middles of the squares of 9 mm that the map distinguishes, in tenths of a millimetre, so
 that a vertex that nobody moved comes back as it was.
 """
+from __future__ import annotations
+
 import functools
 import re
+from collections.abc import Iterable, Sequence
+from xml.etree.ElementTree import Element
 
 from ..files.geopackage import MERCATOR, Unreadable, world
-from ..markup import Frame, together
+from ..forms import Geometry
+from ..markup import Frame, Xml, together
 from .world import metres
 
 POINT, LINE = Frame("gml:pos"), Frame("gml:posList")
@@ -19,7 +24,7 @@ PARTS = {"points": ("gml:Point", "gml:MultiPoint", "gml:pointMember"), "lines": 
 MULTIPLE = {"MultiPoint": "points", "MultiLineString": "lines", "MultiCurve": "lines", "MultiPolygon": "polygons", "MultiSurface": "polygons"}
 
 
-def gml_of(geometry, is_several, system):
+def gml_of(geometry: Geometry, is_several: bool, system: str) -> Xml:
     """A geometry as GML 3: as one of several parts, or as its only part."""
     (kind, lists), = geometry.items()
     several, part = frames_of(kind, is_several, system)
@@ -28,14 +33,14 @@ def gml_of(geometry, is_several, system):
 
 
 @functools.lru_cache
-def frames_of(kind, is_several, system):
+def frames_of(kind: str, is_several: bool, system: str) -> tuple[Frame, Frame]:
     """The frames of a geometry, and of each of its parts."""
     one, several, member = PARTS[kind]
     named = {"srsName": system}
     return Frame((several, named)), Frame(*([member] if is_several else []), (one, named))
 
 
-def coordinates_of(kind, part):
+def coordinates_of(kind: str, part: list) -> Xml:
     """The coordinates of a point, a line or a polygon."""
     if kind == "points":
         return POINT.of(places([part]))
@@ -44,17 +49,17 @@ def coordinates_of(kind, part):
     return together([(INTERIOR if at else EXTERIOR).of(places([*ring, ring[0]])) for at, ring in enumerate(part)])
 
 
-def places(points):
+def places(points: Iterable[Sequence[float]]) -> str:
     """Points of the map in metres."""
     return " ".join("%.4f %.4f" % metres(point) for point in points)
 
 
-def local(element):
+def local(element: Element) -> str:
     """The name of an element without its namespace."""
     return element.tag.rpartition("}")[2]
 
 
-def geometry_of(element):
+def geometry_of(element: Element) -> Geometry:
     """The geometry of the map that an element says."""
     see_system(element)
     kind, parts = parts_of(element)
@@ -63,7 +68,7 @@ def geometry_of(element):
     return {kind: parts}
 
 
-def see_system(element):
+def see_system(element: Element) -> None:
     """Refuses coordinates of another system."""
     for part in element.iter():
         name = part.get("srsName")
@@ -71,7 +76,7 @@ def see_system(element):
             raise Unreadable(f"its coordinates are those of {name}: EPSG:3857 is needed")
 
 
-def parts_of(element):
+def parts_of(element: Element) -> tuple[str, list]:
     """The kind of a geometry, and its parts."""
     name = local(element)
     if name == "Point":
@@ -88,7 +93,7 @@ def parts_of(element):
     return MULTIPLE[name], [part for member in element for child in member for part in parts_of(child)[1]]
 
 
-def ring_in(boundary):
+def ring_in(boundary: Element) -> list:
     """The ring of a boundary of a polygon, without the point that closes it."""
     if len(boundary) != 1:
         raise Unreadable("a boundary of its polygon has no ring")
@@ -96,7 +101,7 @@ def ring_in(boundary):
     return ring[:-1] if len(ring) > 1 and ring[0] == ring[-1] else ring
 
 
-def points_in(element):
+def points_in(element: Element) -> list[list[int]]:
     """The points of an element that has them."""
     try:
         return [world([float(part) for part in place], MERCATOR) for place in coordinates_in(element)]
@@ -104,7 +109,7 @@ def points_in(element):
         raise Unreadable(f"its geometry has no such coordinates: {fault}") from fault
 
 
-def coordinates_in(element):
+def coordinates_in(element: Element) -> list[list[str]]:
     """The coordinates of the points of an element, as texts."""
     found = []
     for child in element:
@@ -117,7 +122,7 @@ def coordinates_in(element):
             comma, blank = child.get("cs", ","), child.get("ts", " ")
             found += [place.split(comma)[:2] for place in (text.split() if blank == " " else text.split(blank)) if place]
         elif name == "coord":
-            found.append([part.text for part in child][:2])
+            found.append([part.text or "" for part in child][:2])
         elif name == "pointProperty" and len(child):
             found += coordinates_in(child[0])
     return found

@@ -1,13 +1,14 @@
 """The features of the map that an edited feature becomes: itself, or its pieces. Needs GDAL's Python module for shapes that are cut alone."""
 from typing import Any
 
+from ..forms import Feature
 from ..interpreters import has
 from ..limits import GREATEST_ZOOM
 from .shapes import SAFE, Unfit, points_of
 from .wholes import OUTLINE, PIECE, WHOLE
 
 
-def pieces_of(row: Any, now: dict[int, dict]) -> dict[int, dict]:
+def pieces_of(row: Any, now: dict[int, Feature]) -> dict[int, Feature]:
     """The features by their ids that a row is to be on the map. Raises `Unfit`. A new row has no id that is somebody else's. A row has a `number`, the
     `feature` that it is to be (None: deleted), its `base`, which is the whole that the map has of it (None of a new one), and what was `seen`."""
     base, feature = row.base, row.feature
@@ -30,7 +31,7 @@ def pieces_of(row: Any, now: dict[int, dict]) -> dict[int, dict]:
     return dict(zip(ids, made))
 
 
-def cut(row: Any, is_cut: bool) -> list[dict]:
+def cut(row: Any, is_cut: bool) -> list[Feature]:
     """The features of a new shape: itself, or its pieces."""
     feature = row.feature
     (kind, lists), = feature["geometry"].items()
@@ -45,7 +46,7 @@ def cut(row: Any, is_cut: bool) -> list[dict]:
     return [feature]
 
 
-def is_large(feature: dict[str, Any]) -> bool:
+def is_large(feature: Feature) -> bool:
     """Whether a shape may be larger than a tile of its last zoom."""
     xs, ys = zip(*points_of(feature["geometry"]))
     return max(max(xs) - min(xs), max(ys) - min(ys)) > SAFE << (20 - feature["maxzoom"])

@@ -9,6 +9,7 @@ from __future__ import annotations
 import math
 from collections.abc import Iterable
 
+from ..forms import Geometry
 from .wholes import twice_area
 from .world import EARTH, WORLD
 
@@ -35,7 +36,7 @@ def chains(shape: Shape) -> list:
     return lists if kind == "lines" else [ring for rings in lists for ring in rings]
 
 
-def points_of(geometry: dict[str, list]) -> list:
+def points_of(geometry: Geometry) -> list:
     """All points of a geometry."""
     (kind, lists), = geometry.items()
     if kind == "points":

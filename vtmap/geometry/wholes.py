@@ -8,20 +8,27 @@ from __future__ import annotations
 
 import json
 import math
-from collections import defaultdict, namedtuple
+from collections import defaultdict
 from collections.abc import Iterable, Iterator, Sequence
-from typing import Any
+from typing import NamedTuple
+
+from ..forms import Feature, Tags
 
 WHOLE, OUTLINE = "whole", "-outline"
 # Ids of features are below it, where pieces get ids of their own: piece k of the feature of id n has the id n + k * PIECE.
 PIECE = 2 ** 40
 
-# A feature as people see it: the id (of a cut one that of its first piece), the feature without the tag `whole`, and the features of the
-# map that it is, by their ids.
-Whole = namedtuple("Whole", "number feature pieces")
+
+class Whole(NamedTuple):
+    """A feature as people see it: the id (of a cut one that of its first piece), the feature without the tag `whole`,
+    and the features of the map that it is, by their ids."""
+
+    number: int
+    feature: Feature
+    pieces: dict[int, Feature]
 
 
-def wholes_of(features: Iterable[tuple[int, dict]], name: str = WHOLE) -> list[Whole]:
+def wholes_of(features: Iterable[tuple[int, Feature]], name: str = WHOLE) -> list[Whole]:
     """The features of a map, given as pairs of id and feature, as wholes in ascending order of their ids."""
     groups, made = defaultdict(dict), []
     for number, feature in features:
@@ -38,13 +45,13 @@ def wholes_of(features: Iterable[tuple[int, dict]], name: str = WHOLE) -> list[W
     return sorted(made)
 
 
-def whole_in(tags: dict[str, Any], name: str = WHOLE) -> int | None:
+def whole_in(tags: Tags, name: str = WHOLE) -> int | None:
     """The id of the whole that the tags of a piece name; None if they name none."""
     number = tags.get(name)
     return None if isinstance(number, bool) or not isinstance(number, int) else number
 
 
-def group_of(feature: dict[str, Any], name: str) -> tuple | None:
+def group_of(feature: Feature, name: str) -> tuple | None:
     """What the pieces of one feature have in common, first the id of the whole; None for a feature that is no piece."""
     number = whole_in(feature["tags"], name)
     if number is None:
@@ -53,7 +60,7 @@ def group_of(feature: dict[str, Any], name: str) -> tuple | None:
     return number, feature["layer"].removesuffix(OUTLINE), feature["minzoom"], feature["maxzoom"], tags
 
 
-def joined(number: int, pieces: dict[int, dict], name: str) -> Whole:
+def joined(number: int, pieces: dict[int, Feature], name: str) -> Whole:
     """The whole of these pieces."""
     first = pieces[number]
     (kind, _), = first["geometry"].items()
@@ -132,7 +139,7 @@ def oriented(ring: list, is_outer: bool) -> list:
     return ring if (twice_area(ring) > 0) == is_outer else ring[::-1]
 
 
-def right_handed(feature: dict[str, Any]) -> dict[str, Any]:
+def right_handed(feature: Feature) -> Feature:
     """The feature with its rings as GeoJSON has them (RFC 7946, 3.1.6): outer ones counterclockwise in longitude and latitude, inner ones clockwise.
     In the map, whose rows go down, that is the other way round."""
     polygons = feature["geometry"].get("polygons")
