@@ -15,6 +15,7 @@ from ..client.followers import Log
 from ..ending import replaced
 from ..faults import Stopped
 from ..files.edit_log import EditLog, last_of, rotated
+from ..forms import ListedChange, LogRow
 from .at import When, needed
 from .checkout import Choice
 
@@ -35,7 +36,7 @@ class Tail:
         # known.
         self.place: tuple[int, int] | None = None
 
-    def after(self, number: int) -> tuple[list[dict[str, Any]], tuple[int, int] | None]:
+    def after(self, number: int) -> tuple[list[LogRow], tuple[int, int] | None]:
         """Some rows after an edit, and the place behind them."""
         rows, place = self.from_place() or self.from_files(number)
         first = first_of(rows[0]) if rows else number + 1
@@ -44,9 +45,9 @@ class Tail:
             rows.insert(0, {"time": rows[0]["time"], "missed": [number + 1, first - 1]})
         return rows, place
 
-    def from_files(self, number: int) -> tuple[list[dict[str, Any]], tuple[int, int] | None]:
+    def from_files(self, number: int) -> tuple[list[LogRow], tuple[int, int] | None]:
         """Some rows after an edit, of the files that there are."""
-        rows: list[dict[str, Any]] = []
+        rows: list[LogRow] = []
         for name in needed(rotated(self.path), When("", edit=number), None):
             part = read(name, 0, MOST - len(rows), number)
             rows += part.rows
@@ -54,7 +55,7 @@ class Tail:
                 return rows, part.place if name == self.path else None
         return rows, None
 
-    def from_place(self) -> tuple[list[dict[str, Any]], tuple[int, int] | None] | None:
+    def from_place(self) -> tuple[list[LogRow], tuple[int, int] | None] | None:
         """Some rows behind the place; None if that isn't known, or the log isn't the file any more that it was."""
         if self.place is None or not os.path.exists(self.path):
             return None
@@ -69,22 +70,20 @@ class Tail:
 class Part(NamedTuple):
     """Rows of a file, the place behind them, and whether there are no more."""
 
-    rows: list[dict[str, Any]]
+    rows: list[LogRow]
     place: tuple[int, int]
     is_all: bool
 
 
-def first_of(row: dict[str, Any]) -> int:
+def first_of(row: LogRow) -> int:
     """The first edit that a row speaks of, or that comes after it."""
-    found = row["edit"] if "edit" in row else row["missed"][0] if "missed" in row else row["begins"]
-    assert isinstance(found, int)
-    return found
+    return row["edit"] if "edit" in row else row["missed"][0] if "missed" in row else row["begins"]
 
 
 def read(path: str, begin: int, most: int, number: int) -> Part:
     """Rows after an edit from a place of a file on."""
     opened: Any = gzip.open if path.endswith(".gz") else open
-    rows: list[dict[str, Any]] = []
+    rows: list[LogRow] = []
     size, is_all = 0, False
     with opened(path, "rb") as file:
         file.seek(begin)
@@ -166,14 +165,16 @@ class Teller:
         self.pause = PAUSE
         return True
 
-    def chosen(self, row: dict[str, Any]) -> dict[str, Any] | None:
+    def chosen(self, row: LogRow) -> LogRow | None:
         """What of a row is told, None if nothing."""
         if "changes" not in row:
             return row if "missed" in row else None
         changes = [change for change in row["changes"] if self.is_chosen(change)]
-        return {**row, "changes": changes} if changes else None
+        made = row.copy()
+        made["changes"] = changes
+        return made if changes else None
 
-    def is_chosen(self, change: dict[str, Any]) -> bool:
+    def is_chosen(self, change: ListedChange) -> bool:
         """Whether a feature is, or was, in the box and the layers. What it was may not be known."""
         return "was" not in change or any(
             self.choice.meets(feature) for feature in (change.get("feature"), change["was"]) if feature

@@ -3,12 +3,16 @@
 The file is only read. What the live root refers to isn't written to until the next publication has installed another root: so the snapshot
 and the journal are those of one moment, if the same root is live after they were read. Otherwise reading begins again.
 """
+from __future__ import annotations
+
 import os
 import struct
 import time
-from collections import namedtuple
+from collections.abc import Callable, Iterator
+from typing import NamedTuple
 
 from ..faults import Fault
+from ..forms import Feature, Geometry, Value
 from ..limits import PART, SECTOR
 from ..systems import open_to_read, read_at
 
@@ -19,9 +23,23 @@ KINDS = {1: "points", 2: "lines", 3: "polygons"}
 # Sectors of the journal that are read at once, and how often reading is begun, a second apart.
 CHUNK, TRIES = 2048, 30
 
-Root = namedtuple("Root", "generation edits journal_at snapshot archive")
-# The features by their ids, the last edit in them, and how often a publication passed while they were read.
-Moment = namedtuple("Moment", "features edit passed")
+
+class Root(NamedTuple):
+    """What a root sector has."""
+
+    generation: int
+    edits: int
+    journal_at: int
+    snapshot: int
+    archive: int
+
+
+class Moment(NamedTuple):
+    """The features by their ids, the last edit in them, and how often a publication passed while they were read."""
+
+    features: dict[int, Feature]
+    edit: int
+    passed: int
 
 
 class Damaged(Fault):
@@ -31,33 +49,33 @@ class Damaged(Fault):
 class Text:
     """Bytes that are taken from the front."""
 
-    def __init__(self, held):
+    def __init__(self, held: bytes) -> None:
         self.held, self.at = held, 0
 
-    def take(self, size):
+    def take(self, size: int) -> bytes:
         self.at += size
         if self.at > len(self.held):
             raise Damaged("a text ends early")
         return self.held[self.at - size:self.at]
 
-    def number(self, size):
+    def number(self, size: int) -> int:
         return int.from_bytes(self.take(size), "little")
 
-    def points(self):
+    def points(self) -> list[list[int]]:
         flat = struct.unpack(f"<{2 * (count := self.number(2))}I", self.take(8 * count))
         return [list(pair) for pair in zip(flat[::2], flat[1::2])]
 
-    def lists(self, item):
+    def lists(self, item: Callable[[], list]) -> list:
         return [item() for _ in range(self.number(2))]
 
-    def geometry(self):
+    def geometry(self) -> Geometry:
         kind = KINDS.get(self.number(1))
         if kind is None:
             raise Damaged("a geometry of no kind")
         items = {"points": self.points, "lines": lambda: self.lists(self.points), "polygons": lambda: self.lists(lambda: self.lists(self.points))}
         return {kind: items[kind]()}
 
-    def value(self):
+    def value(self) -> Value:
         kind = self.number(1)
         if kind == 1:
             return self.take(self.number(2)).decode()
@@ -65,7 +83,7 @@ class Text:
             return self.number(8) - (2 ** 64 if kind == 3 else 0)
         return kind == 5
 
-    def change(self):
+    def change(self) -> tuple[int, Feature | None]:
         """The id of the next change, and its feature or None."""
         kind, number = self.number(1), self.number(8)
         if kind != PUT:
@@ -80,7 +98,7 @@ class Text:
 class Disk:
     """An open disk file."""
 
-    def __init__(self, file):
+    def __init__(self, file: int) -> None:
         self.file = file
         first = self.read(0, 1)
         self.version, sectors = struct.unpack_from("<IQ", first, 8)
@@ -89,11 +107,11 @@ class Disk:
         self.slots = sectors // 4
         self.area = (sectors - 3 - self.slots) // 2
 
-    def read(self, sector, count):
+    def read(self, sector: int, count: int) -> bytes:
         """So many sectors."""
         return read_at(self.file, SECTOR * count, SECTOR * sector)
 
-    def root(self):
+    def root(self) -> Root:
         """The live root."""
         found = []
         for number in (1, 2):
@@ -106,22 +124,26 @@ class Disk:
             raise Damaged("both root sectors are empty")
         return max(found)
 
-    def snapshot(self, root):
+    def snapshot(self, root: Root) -> dict[int, Feature]:
         """The features of the snapshot of a root."""
         at = 3 + self.slots + root.generation % 2 * self.area
-        text, features = Text(self.read(at, -(-root.snapshot // SECTOR))[:root.snapshot]), {}
+        text = Text(self.read(at, -(-root.snapshot // SECTOR))[:root.snapshot])
+        features: dict[int, Feature] = {}
         while text.at < root.snapshot:
-            number, features[number] = text.change()
+            number, feature = text.change()
+            if feature is None:
+                raise Damaged("a deletion in a snapshot")
+            features[number] = feature
         return features
 
-    def slots_from(self, slot):
+    def slots_from(self, slot: int) -> Iterator[bytes]:
         """The sectors of the ring, each once, from a slot on."""
         for first, end in ((slot, self.slots), (0, slot)):
             for at in range(first, end, CHUNK):
                 held = self.read(3 + at, min(CHUNK, end - at))
                 yield from (held[place:place + SECTOR] for place in range(0, len(held), SECTOR))
 
-    def records(self, root):
+    def records(self, root: Root) -> Iterator[tuple[int, bytes]]:
         """The version and the text of each record after the snapshot of a root."""
         ring, number = self.slots_from(root.journal_at), root.edits + 1
         for head in ring:
@@ -136,21 +158,22 @@ class Disk:
             number += 1
 
 
-def applied(features, version, text):
+def applied(features: dict[int, Feature], version: int, text: bytes) -> None:
     """Makes the edit of a record."""
-    text = Text(text)
-    for number, feature in [text.change() for _ in range(text.number(1) if version > 1 else 1)]:
+    held = Text(text)
+    for number, feature in [held.change() for _ in range(held.number(1) if version > 1 else 1)]:
         if feature is None:
             features.pop(number, None)
         else:
             features[number] = feature
 
 
-def moment_of(path):
+def moment_of(path: str) -> Moment:
     """The map of one moment. Raises `OSError`, or `Damaged` if the file isn't as docs/FORMATS.md has it."""
     if not os.path.isfile(path):
         raise OSError(f"{path} is no file" if os.path.exists(path) else f"there is no file {path}")
-    file, passed, fault = open_to_read(path), 0, None
+    file, passed = open_to_read(path), 0
+    fault: Exception | None = None
     try:
         disk = Disk(file)
         for again in range(TRIES):

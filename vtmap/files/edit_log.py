@@ -10,18 +10,26 @@ out where that isn't known. `time` is when the edit was seen. If the server hadn
 asked last: the edit was made between the two. For `was` the features of the map are kept in a second file (SQLite, FILE.map), which is made anew from
 the list of features where it is missing or too old. FILE.at has the number of the last edit, for a publication that waits for the log.
 """
+from __future__ import annotations
+
 import gzip
 import itertools
 import json
 import os
 import sqlite3
+from collections.abc import Iterable, Iterator, Mapping
 from contextlib import contextmanager
 from datetime import datetime, timezone
+from typing import TYPE_CHECKING, Any
 
 from ..client.edits import encoded
 from ..client.followers import NUMBER
 from ..ending import replaced
 from ..faults import Stopped
+from ..forms import ListedChange, ListedEdit, LogRow, id_of
+
+if TYPE_CHECKING:
+    from ..client.feed import Leader
 
 SCHEMA = """
     PRAGMA journal_mode = WAL;
@@ -39,18 +47,20 @@ class KeptMap:
     """The features of the map after edit `at`, None if nothing is kept. What edits up to `sure` replace isn't known: the list of the features was
     read while they were made."""
 
-    def __init__(self, path):
-        self.path, self.at, self.sure = path, None, 0
+    def __init__(self, path: str) -> None:
+        self.path = path
+        self.at: int | None = None
+        self.sure = 0
         with self.told():
             self.file = sqlite3.connect(path, timeout=1, isolation_level=None)
             self.file.executescript(SCHEMA)
             known = dict(self.file.execute("SELECT name, number FROM known"))
         self.at, self.sure, looked = known.get("at"), known.get("sure", 0), known.get("looked")
         # When it was known last that the server had no later edit.
-        self.looked = looked and datetime.fromtimestamp(looked / 1000, timezone.utc)
+        self.looked = datetime.fromtimestamp(looked / 1000, timezone.utc) if looked else None
 
     @contextmanager
-    def told(self):
+    def told(self) -> Iterator[None]:
         """Stops at a fault of the file, with its path."""
         try:
             yield
@@ -59,7 +69,7 @@ class KeptMap:
             raise Stopped(f"{self.path}: {fault}{other}") from fault
 
     @contextmanager
-    def changed(self):
+    def changed(self) -> Iterator[sqlite3.Connection]:
         """Changes the features, and of which edit they are: all of it, or nothing."""
         before = self.at, self.sure
         with self.told():
@@ -75,7 +85,7 @@ class KeptMap:
                     self.file.execute("ROLLBACK")
                 raise
 
-    def list(self, source, at=None):
+    def list(self, source: Leader, at: int | None = None) -> None:
         """Keeps the features that a server lists, as of an edit that it still lists the ones after, or of now."""
         before = source.known()["edits"]
         if at is not None and at > before:
@@ -85,41 +95,62 @@ class KeptMap:
             file.executemany("INSERT INTO feature VALUES (?, ?)", ((number, encoded(feature)) for number, feature in source.features()))
             self.at, self.sure = before if at is None else at, source.known()["edits"]
 
-    def with_was(self, number, change):
+    def with_was(self, number: int, change: ListedChange) -> ListedChange:
         """A change of an edit with what it replaces; makes it."""
-        name = change.get("put", change.get("delete"))
+        name = id_of(change)
         found = self.file.execute("SELECT json FROM feature WHERE id = ?", [name]).fetchone()
         if "put" in change:
             self.file.execute("INSERT OR REPLACE INTO feature VALUES (?, ?)", [name, encoded(change["feature"])])
         else:
             self.file.execute("DELETE FROM feature WHERE id = ?", [name])
-        return change if number <= self.sure else {**change, "was": found and json.loads(found[0])}
+        if number <= self.sure:
+            return change
+        made = change.copy()
+        made["was"] = json.loads(found[0]) if found else None
+        return made
+
+    def last(self) -> int:
+        """The edit after which it is."""
+        if self.at is None:
+            raise Stopped(f"{self.path} isn't the map of an edit yet")
+        return self.at
 
 
 class EditLog:
     """A log that is written. `at` is the number of the last edit that its map has, and `logged` that of its last line. `looked`: when the server was
     asked last for edits, as far as is known."""
 
-    def __init__(self, path):
+    def __init__(self, path: str) -> None:
         self.path = self.address = path
-        self.at = self.logged = self.map = self.looked = self.kept = None
+        self.at: int | None = None
+        self.logged: int | None = None
+        self.map: KeptMap | None = None
+        self.looked: datetime | None = None
+        # When it was kept last that the server had no later edit.
+        self.kept: datetime | None = None
 
-    def begin(self, source):
+    def begin(self, source: Leader) -> None:
         """Finds out where the log and its map are. A new log begins with the next edit."""
         asked = datetime.now(timezone.utc)
         if self.map is None:
             self.map = KeptMap(self.path + ".map")
             last = self.last_row()
             self.logged = last_of(last) if last else None
-            self.looked = max(filter(None, [self.map.looked, last and time_of(last)]), default=asked)
+            self.looked = max(filter(None, [self.map.looked, time_of(last) if last else None]), default=asked)
         if self.map.at is None:
             self.map.list(source, self.logged)
         if self.logged is None:
-            self.write([{"begins": self.map.at + 1}])
+            self.write([{"begins": self.map.last() + 1}])
             self.logged = self.map.at
         self.keep_number()
 
-    def last_row(self):
+    def begun(self) -> tuple[KeptMap, int]:
+        """The map and the number of the last line, which `begin` finds out."""
+        if self.map is None or self.logged is None:
+            raise Stopped(f"{self.path} isn't begun")
+        return self.map, self.logged
+
+    def last_row(self) -> LogRow | None:
         """The last line, None if there is none. What a crash left of a line behind it is cut off."""
         if not os.path.exists(self.path):
             return None
@@ -138,41 +169,51 @@ class EditLog:
         line = text[:cut].rstrip(b"\n").rpartition(b"\n")[2]
         return json.loads(line) if line else None
 
-    def look(self, time):
+    def look(self, time: datetime) -> None:
         """Notes that the server had no later edit at a time."""
         self.looked = time
         if self.kept is None or (time - self.kept).total_seconds() >= KEPT:
-            self.kept = self.map.looked = time
-            with self.map.changed():
+            kept_map, _ = self.begun()
+            self.kept = kept_map.looked = time
+            with kept_map.changed():
                 pass
 
-    def take(self, edits):
+    def take(self, edits: list[ListedEdit]) -> None:
         """Appends edits, the first of which is the one after the last."""
-        is_late = self.looked is not None and (datetime.now(timezone.utc) - self.looked).total_seconds() > SOON
-        since = {"since": text_of(self.looked)} if is_late else {}
-        with self.map.changed():
-            rows = [{**since, "edit": edit["edit"], "changes": [self.map.with_was(edit["edit"], change) for change in edit["changes"]]} for edit in edits]
-            self.write([row for row in rows if row["edit"] > self.logged])
-            self.map.at = edits[-1]["edit"]
-        self.logged = max(self.logged, self.map.at)
+        kept_map, logged = self.begun()
+        since: LogRow = {}
+        if self.looked is not None and (datetime.now(timezone.utc) - self.looked).total_seconds() > SOON:
+            since["since"] = text_of(self.looked)
+        with kept_map.changed():
+            rows = []
+            for edit in edits:
+                row = since.copy()
+                row["edit"] = edit["edit"]
+                row["changes"] = [kept_map.with_was(edit["edit"], change) for change in edit["changes"]]
+                rows.append(row)
+            self.write([row for row in rows if row["edit"] > logged])
+            kept_map.at = edits[-1]["edit"]
+        self.logged = max(logged, kept_map.at)
         self.keep_number()
 
-    def miss(self, source, published):
+    def miss(self, source: Leader, published: int) -> None:
         """Says which edits were published before they were read, and keeps the map of now."""
-        if self.logged < published:
-            self.write([{"missed": [self.logged + 1, published]}])
-            print(f"{self.path}: the edits {self.logged + 1:,} to {published:,} were published before they were read, and are missing "
-                  "(`vtmap publish --pause` waits for who follows)", flush=True)
+        kept_map, logged = self.begun()
+        if logged < published:
+            self.write([{"missed": [logged + 1, published]}])
+            print(f"{self.path}: the edits {logged + 1:,} to {published:,} were published before they were read, and "
+                  "are missing (`vtmap publish --pause` waits for who follows)", flush=True)
             self.logged = published
-        self.map.list(source, published)
+        kept_map.list(source, published)
         self.keep_number()
 
-    def keep_number(self):
+    def keep_number(self) -> None:
         """Keeps the number of the last edit that the log and its map have, once they have it: a publication may take it out of the list."""
-        self.at = self.map.at
+        kept_map, _ = self.begun()
+        self.at = kept_map.at
         replaced(self.path + NUMBER, f"{self.at}\n")
 
-    def write(self, rows):
+    def write(self, rows: list[LogRow]) -> None:
         """Appends lines, and has them outlive a crash. The file may have been renamed since, as logrotate does: then another one begins."""
         if not rows:
             return
@@ -183,27 +224,27 @@ class EditLog:
             os.fsync(file.fileno())
 
 
-def text_of(time):
+def text_of(time: datetime) -> str:
     """A time as a line has it."""
     return time.isoformat(timespec="milliseconds").replace("+00:00", "Z")
 
 
-def read_time(text):
+def read_time(text: str) -> datetime:
     """A time as a line, or a person, writes it. Python before 3.11 reads no `Z`."""
     return datetime.fromisoformat(text.replace("Z", "+00:00"))
 
 
-def time_of(row, name="time"):
+def time_of(row: Mapping[str, Any], name: str = "time") -> datetime:
     """When the edit of a line was seen."""
     return read_time(row[name])
 
 
-def last_of(row):
+def last_of(row: LogRow) -> int:
     """The last edit that a line speaks of."""
     return row["edit"] if "edit" in row else row["missed"][1] if "missed" in row else row["begins"] - 1
 
 
-def rotated(path):
+def rotated(path: str) -> Iterator[str]:
     """The files of a log that there are, as logrotate leaves them, the newest first. While nothing was written since, there is none of that name."""
     if os.path.exists(path):
         yield path
@@ -214,15 +255,15 @@ def rotated(path):
         yield names[0]
 
 
-def lines_in(paths):
+def lines_in(paths: Iterable[str]) -> Iterator[bytes]:
     """The lines of several logs."""
     for path in paths:
         yield from lines_of(path)
 
 
-def lines_of(path):
+def lines_of(path: str) -> Iterator[bytes]:
     """The lines of a log, which may be compressed by gzip; a last one that isn't whole is left out."""
-    with (gzip.open if path.endswith(".gz") else open)(path, "rb") as file:
+    with gzip.open(path, "rb") if path.endswith(".gz") else open(path, "rb") as file:
         for line in file:
             if line.endswith(b"\n"):
                 yield line

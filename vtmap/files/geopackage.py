@@ -4,13 +4,20 @@ Coordinates in a table are those of Web Mercator (EPSG:3857), of the middles of 
 shape that nobody edits comes back as it was. What `vtmap checkin` has to know lies in tables of the same file whose names begin with `gpkg_`,
 which GDAL and QGIS don't show.
 """
+from __future__ import annotations
+
 import math
 import sqlite3
 import struct
+from collections.abc import Iterable, Iterator, Sequence
+from typing import Union
 
 from ..faults import Fault
+from ..forms import Geometry
 from ..geometry.world import EARTH, at_shares, metres, shares
 
+# What a cell of a table has.
+Cell = Union[None, bool, int, float, str, bytes]
 MERCATOR, DEGREES = 3857, 4326
 KINDS = {"points": 1, "lines": 2, "polygons": 3}
 NAMES = ["", "POINT", "LINESTRING", "POLYGON", "MULTIPOINT", "MULTILINESTRING", "MULTIPOLYGON"]
@@ -43,12 +50,12 @@ class Unreadable(Fault):
     """Why a file or a feature of it can't be read."""
 
 
-def quoted(name):
+def quoted(name: str) -> str:
     """A name of SQL."""
     return '"' + name.replace('"', '""') + '"'
 
 
-def free_name(name, taken):
+def free_name(name: str, taken: set[str]) -> str:
     """The name, or one like it if it is taken: names of SQL differ by more than their case. It is taken then."""
     made, number = name, 1
     while made.lower() in taken or made.lower().startswith(("gpkg_", "sqlite_", "rtree_")):
@@ -61,7 +68,7 @@ def free_name(name, taken):
 
 # ---- coordinates
 
-def world(place, system):
+def world(place: Sequence[float], system: int) -> list[int]:
     """The point of the map of a place in Web Mercator or in degrees."""
     x, y = shares(*place) if system == DEGREES else (place[0] / EARTH + 0.5, 0.5 - place[1] / EARTH)
     if not (math.isfinite(x) and math.isfinite(y) and -0.0000001 <= x <= 1.0000001 and -0.0000001 <= y <= 1.0000001):
@@ -71,7 +78,7 @@ def world(place, system):
 
 # ---- geometries
 
-def blob_of(geometry, is_several):
+def blob_of(geometry: Geometry, is_several: bool) -> bytes:
     """A geometry of the map as a GeoPackage has it."""
     (kind, lists), = geometry.items()
     places = [place for part in lists for place in places_of(kind, part)]
@@ -83,12 +90,12 @@ def blob_of(geometry, is_several):
     return head + box + several + b"".join(parts)
 
 
-def places_of(kind, part):
+def places_of(kind: str, part: list) -> Iterator[tuple[float, float]]:
     """The places of a part of a geometry."""
     return map(metres, [part] if kind == "points" else part if kind == "lines" else [point for ring in part for point in ring])
 
 
-def one_of(kind, part):
+def one_of(kind: str, part: list) -> bytes:
     """A point, a line or a polygon in well-known binary."""
     head = struct.pack("<BI", 1, KINDS[kind])
     if kind == "points":
@@ -98,31 +105,31 @@ def one_of(kind, part):
     return head + struct.pack("<I", len(part)) + b"".join(places_in([*ring, ring[0]]) for ring in part)
 
 
-def places_in(points):
+def places_in(points: list) -> bytes:
     return struct.pack("<I", len(points)) + b"".join(struct.pack("<2d", *metres(point)) for point in points)
 
 
 class Binary:
     """Reads well-known binary."""
 
-    def __init__(self, blob, system):
+    def __init__(self, blob: bytes, system: int) -> None:
         self.blob, self.at, self.system, self.order = blob, 0, system, "<"
 
-    def take(self, form):
+    def take(self, form: str) -> tuple:
         values = struct.unpack_from(self.order + form, self.blob, self.at)
         self.at += struct.calcsize(self.order + form)
         return values
 
-    def head(self):
+    def head(self) -> tuple[int, int]:
         """The type of the next geometry, and how many coordinates a point has."""
         self.order = "<" if self.take("B")[0] else ">"
         (code,) = self.take("I")
         return code % 1000, 2 + {0: 0, 1: 1, 2: 1, 3: 2}.get(code // 1000, 0)
 
-    def points(self, size, count):
+    def points(self, size: int, count: int) -> list[list[int]]:
         return [world(self.take(f"{size}d")[:2], self.system) for _ in range(count)]
 
-    def part(self):
+    def part(self) -> tuple[str, list]:
         """The parts of the next geometry: points, lines or polygons, and their kind."""
         code, size = self.head()
         if code == 1:
@@ -138,7 +145,7 @@ class Binary:
         raise Unreadable("its geometry is neither of points nor of lines nor of polygons (curves and collections aren't taken)")
 
 
-def geometry_of(blob):
+def geometry_of(blob: object) -> Geometry:
     """The geometry of the map of one of a GeoPackage."""
     if not isinstance(blob, bytes) or blob[:2] != b"GP" or len(blob) < 8:
         raise Unreadable("it has no geometry")
@@ -160,7 +167,7 @@ def geometry_of(blob):
 
 # ---- files
 
-def create(path):
+def create(path: str) -> sqlite3.Connection:
     """A new file without tables."""
     file = sqlite3.connect(path)
     file.executescript(SCHEMA)
@@ -168,7 +175,14 @@ def create(path):
     return file
 
 
-def add_table(file, name, kind, is_several, columns, rows):
+def add_table(
+    file: sqlite3.Connection,
+    name: str,
+    kind: str,
+    is_several: bool,
+    columns: Sequence[tuple[str, str]],
+    rows: Iterable[tuple[int, Geometry, Sequence[Cell]]],
+) -> None:
     """Adds a table. Columns are pairs of name and type; rows have an id, a geometry and a value for each column."""
     made = "".join(f", {quoted(column)} {form}" for column, form in columns)
     file.execute(f"CREATE TABLE {quoted(name)} (fid INTEGER PRIMARY KEY AUTOINCREMENT NOT NULL, geom BLOB{made})")
@@ -186,17 +200,17 @@ def add_table(file, name, kind, is_several, columns, rows):
     file.execute("INSERT INTO gpkg_geometry_columns VALUES (?, 'geom', ?, ?, 0, 0)", (name, form, MERCATOR))
 
 
-def tables(file):
+def tables(file: sqlite3.Connection) -> list[tuple[str, str]]:
     """The tables of features of a file, each with the name of its column of geometries."""
     return file.execute("SELECT table_name, column_name FROM gpkg_geometry_columns ORDER BY table_name").fetchall()
 
 
-def plain_tables(file):
+def plain_tables(file: sqlite3.Connection) -> list[str]:
     """The tables of a file that have no geometry, as far as it lists them."""
     return [name for name, in file.execute("SELECT table_name FROM gpkg_contents WHERE data_type = 'attributes' ORDER BY 1")]
 
 
-def rows(file, table, geometry):
+def rows(file: sqlite3.Connection, table: str, geometry: str) -> Iterator[tuple[int, object, dict[str, Cell]]]:
     """The rows of a table: the id of each, its geometry as it is stored, and the values of its other columns with their types by their names."""
     columns = file.execute(f"PRAGMA table_info({quoted(table)})").fetchall()
     key = next((name for _, name, _, _, _, is_key in columns if is_key), "rowid")
@@ -206,7 +220,7 @@ def rows(file, table, geometry):
         yield number, blob, {name: typed(value, form) for (name, form), value in zip(others, values)}
 
 
-def typed(value, form):
+def typed(value: Cell, form: str) -> Cell:
     """The value of a cell: booleans and whole numbers as such."""
     if form == "BOOLEAN" and value in (0, 1):
         return bool(value)

@@ -5,14 +5,19 @@
 
 A value that a feature has already is never refused by it, nor is a layer that it doesn't name.
 """
+from __future__ import annotations
+
 import json
 import os
 import re
-from collections import Counter, namedtuple
+from collections import Counter
+from collections.abc import Iterable, Mapping
 from datetime import date
+from typing import Any, NamedTuple
 
 from ..ending import regular, replaced
 from ..faults import Refused
+from ..forms import Feature, Tags, Value
 from ..geometry.wholes import WHOLE
 from ..limits import GREATEST_ZOOM, MOST_NAME, MOST_TAG, MOST_TAGS, NUMBER_END
 from ..shown import shown
@@ -33,10 +38,15 @@ class WrongSchema(Refused):
     """Why a text is no schema, or one can't be changed so."""
 
 
-class Field(namedtuple("Field", "type label choices required")):
+class Field(NamedTuple):
     """A field: its type, what it is called (None: as its tag), the values that it may have (None: any), and whether each feature has one."""
 
-    def fitted(self, value):
+    type: str
+    label: str | None
+    choices: list[Value] | None
+    required: bool
+
+    def fitted(self, value: Value) -> Value:
         """A value of another type that says one of this, as that one; otherwise the value."""
         if self.type in ("text", "number", "date") and isinstance(value, int) and not isinstance(value, bool):
             return str(value) if self.type == "text" else value
@@ -44,7 +54,7 @@ class Field(namedtuple("Field", "type label choices required")):
             return int(value)
         return TRUTHS.get(value.strip().lower(), value) if self.type == "boolean" and isinstance(value, str) else value
 
-    def fault(self, value):
+    def fault(self, value: object) -> str | None:
         """Why it can't have a value, or None."""
         if not is_of_type(self.type, value):
             return f"is {value!r}, no {self.type}"
@@ -53,30 +63,36 @@ class Field(namedtuple("Field", "type label choices required")):
             return f"is {value!r}: {'one of ' if len(self.choices) > 1 else ''}{named}{', ..' if len(self.choices) > MOST_NAMED else ''} is needed"
         return None
 
-    def row(self):
+    def row(self) -> dict[str, object]:
         """The field as the file has it."""
         made = {"type": self.type, "label": self.label, "choices": self.choices, "required": self.required or None}
         return {name: value for name, value in made.items() if value is not None}
 
 
-class Layer(namedtuple("Layer", "title kinds zooms label fields")):
+class Layer(NamedTuple):
     """A layer: its title, the kinds of shapes that it is shown with although it has none, the zooms of a new feature (None: those of most), the field
     that names a feature, and the fields by their tags."""
 
-    def forms(self):
+    title: str | None
+    kinds: tuple[str, ...]
+    zooms: tuple[int, int] | None
+    label: str | None
+    fields: dict[str, Field]
+
+    def forms(self) -> dict[str, str]:
         """The types of columns by the tags."""
         return {tag: TYPES[field.type] for tag, field in self.fields.items()}
 
-    def fitted(self, tags, before=None):
+    def fitted(self, tags: Tags, before: Tags | None = None) -> Tags:
         """Tags whose values have the types of their fields, where they say such a value. Values from before stay as they are."""
         old = before or {}
         return {tag: self.fields[tag].fitted(value) if tag in self.fields and old.get(tag) != value else value for tag, value in tags.items()}
 
-    def unknown(self, tags):
+    def unknown(self, tags: Iterable[str]) -> list[str]:
         """The tags for which there is no field."""
         return [tag for tag in tags if tag not in self.fields and tag != WHOLE]
 
-    def fault(self, before, after):
+    def fault(self, before: Tags | None, after: Tags) -> str | None:
         """Why a feature can't have these tags, or None. `before`: those that it had, None if it is new. What it had already is no fault."""
         old = before or {}
         for tag, value in after.items():
@@ -89,7 +105,7 @@ class Layer(namedtuple("Layer", "title kinds zooms label fields")):
                 return f"{shown(tag)} is required"
         return None
 
-    def row(self):
+    def row(self) -> dict[str, object]:
         """The layer as the file has it."""
         first, last = self.zooms or (None, None)
         made = {"title": self.title, "kinds": list(self.kinds) or None, "minzoom": first, "maxzoom": last, "label": self.label}
@@ -99,19 +115,19 @@ class Layer(namedtuple("Layer", "title kinds zooms label fields")):
 class Schema:
     """The layers by their names."""
 
-    def __init__(self, layers=None):
+    def __init__(self, layers: dict[str, Layer] | None = None) -> None:
         self.layers = layers or {}
 
-    def text(self):
+    def text(self) -> str:
         """The text of the file."""
         return json.dumps({"layers": {name: layer.row() for name, layer in self.layers.items()}}, ensure_ascii=False, indent=2) + "\n"
 
-    def tables(self):
+    def tables(self) -> set[tuple[str, str]]:
         """The layers and kinds of shapes that are shown although they have no feature."""
         kinds = {told: kind for kind, told in KINDS.items()}
         return {(name, kinds[kind]) for name, layer in self.layers.items() for kind in layer.kinds}
 
-    def added(self, more):
+    def added(self, more: Schema) -> Schema:
         """The schema with what another one has more: layers, fields, and choices of fields. What both have has to be alike."""
         made = dict(self.layers)
         for name, layer in more.layers.items():
@@ -119,7 +135,7 @@ class Schema:
         return parsed(Schema(made).text())
 
 
-def missing(layer, *tags):
+def missing(layer: str, *tags: str) -> str:
     """What to do for fields that a layer doesn't have."""
     named, typed = " and ".join(repr(shown(tag)) for tag in tags), " ".join(map(words, (layer, *tags)))
     if any(name.startswith("-") for name in (layer, *tags)):
@@ -128,12 +144,12 @@ def missing(layer, *tags):
     return f"{shown(layer)} has no field {named}: `vtmap schema add {typed}` makes {'it' if len(tags) == 1 else 'them'}"
 
 
-def words(text):
+def words(text: str) -> str:
     """A name as the word of a command."""
     return text if re.fullmatch(r"[\w.:-]+", text) else "'" + shown(text).replace("'", "'\\''") + "'"
 
 
-def with_more(name, layer, more):
+def with_more(name: str, layer: Layer, more: Layer) -> Layer:
     """A layer with the fields, kinds and choices that another one has more, and the title and zooms that it says."""
     fields = dict(layer.fields)
     for tag, field in more.fields.items():
@@ -147,7 +163,7 @@ def with_more(name, layer, more):
     return Layer(more.title or layer.title, kinds, more.zooms or layer.zooms, more.label or layer.label, fields)
 
 
-def is_of_type(kind, value):
+def is_of_type(kind: str, value: object) -> bool:
     """Whether a value is of a type."""
     if kind in ("boolean", "integer"):
         return isinstance(value, bool) if kind == "boolean" else isinstance(value, int) and not isinstance(value, bool)
@@ -158,7 +174,7 @@ def is_of_type(kind, value):
     return kind == "text" or (NUMBER.fullmatch(value) is not None if kind == "number" else is_date(value))
 
 
-def is_date(text):
+def is_date(text: str) -> bool:
     """Whether a text is a day, as 2026-11-29."""
     try:
         return len(text) == 10 and date.fromisoformat(text).isoformat() == text
@@ -168,7 +184,7 @@ def is_date(text):
 
 # ---- reading
 
-def parsed(text):
+def parsed(text: str) -> Schema:
     """The schema that a text has."""
     if length_of(text) > MOST_BYTES:
         raise WrongSchema(f"the schema has over {MOST_BYTES:,} bytes")
@@ -182,7 +198,7 @@ def parsed(text):
     return Schema({name: layer_of(name, row) for name, row in layers.items()})
 
 
-def once(pairs):
+def once(pairs: list[tuple[str, Any]]) -> dict[str, Any]:
     """The object of names and values, each name once."""
     found = dict(pairs)
     if len(found) < len(pairs):
@@ -190,7 +206,7 @@ def once(pairs):
     return found
 
 
-def member(row, names, place):
+def member(row: object, names: tuple[str, ...], place: str) -> dict[str, Any]:
     """An object that has none but these names."""
     if not isinstance(row, dict):
         raise WrongSchema(f"{place} is no object")
@@ -200,7 +216,7 @@ def member(row, names, place):
     return row
 
 
-def length_of(text):
+def length_of(text: str) -> int:
     """The bytes of a text; too many if it isn't one that can be written."""
     try:
         return len(text.encode())
@@ -208,13 +224,13 @@ def length_of(text):
         return MOST_BYTES
 
 
-def see_name(name, place):
+def see_name(name: str, place: str) -> None:
     """Refuses a name that no layer and no tag can have."""
     if not 0 < length_of(name) <= MOST_NAME:
         raise WrongSchema(f"{place}: a name has 1 to {MOST_NAME} bytes")
 
 
-def layer_of(name, row):
+def layer_of(name: str, row: object) -> Layer:
     """The layer that the file has under a name."""
     place = f"layer {shown(name)}"
     see_name(name, place)
@@ -231,7 +247,7 @@ def layer_of(name, row):
     return Layer(text_in(row, "title", place), tuple(kinds), zooms_of(row, place), label, made)
 
 
-def text_in(row, name, place):
+def text_in(row: Mapping[str, Any], name: str, place: str) -> str | None:
     """A text that an object may have, at most as long as a tag's, None if it has none."""
     text = row.get(name)
     if text is not None and (not isinstance(text, str) or not 0 < length_of(text) <= MOST_TAG):
@@ -239,17 +255,18 @@ def text_in(row, name, place):
     return text
 
 
-def zooms_of(row, place):
+def zooms_of(row: Mapping[str, Any], place: str) -> tuple[int, int] | None:
     """The zooms of a layer, None if it says none."""
     if "minzoom" not in row and "maxzoom" not in row:
         return None
-    first, last = row.get("minzoom"), row.get("maxzoom")
-    if not all(is_of_type("integer", zoom) for zoom in (first, last)) or not 0 <= first <= last <= GREATEST_ZOOM:
+    zooms: list[Any] = [row.get("minzoom"), row.get("maxzoom")]
+    first, last = zooms
+    if not all(is_of_type("integer", zoom) for zoom in zooms) or not 0 <= first <= last <= GREATEST_ZOOM:
         raise WrongSchema(f"{place}: minzoom and maxzoom are zooms from 0 to {GREATEST_ZOOM}, minzoom not above maxzoom")
     return first, last
 
 
-def field_of(tag, row, place):
+def field_of(tag: str, row: object, place: str) -> Field:
     """The field that the file has for a tag."""
     place = f"{place}, field {shown(tag)}"
     see_name(tag, place)
@@ -268,14 +285,14 @@ def field_of(tag, row, place):
     return Field(kind, text_in(row, "label", place), choices, required)
 
 
-def is_short(value):
+def is_short(value: object) -> bool:
     """Whether a tag can have a value."""
     return length_of(value) <= MOST_TAG if isinstance(value, str) else not isinstance(value, int) or -NUMBER_END <= value < 2 * NUMBER_END
 
 
 # ---- of a map
 
-def schema_of(features):
+def schema_of(features: Iterable[Feature]) -> Schema:
     """The schema that features have: their layers, with the kinds of their shapes, the zooms of most, and the types of their tags."""
     found = {}
     for feature in features:
@@ -288,7 +305,7 @@ def schema_of(features):
     return Schema({name: layer_from(*found[name]) for name in sorted(found)})
 
 
-def layer_from(kinds, zooms, values):
+def layer_from(kinds: set[str], zooms: Counter[tuple[int, int]], values: Mapping[str, set[str]]) -> Layer:
     """A layer of these kinds, zooms with how many have them, and types of columns by the tags."""
     fields = {tag: Field(TYPES_OF_FORMS[next(iter(forms))] if len(forms) == 1 else "text", None, None, False) for tag, forms in sorted(values.items())}
     return Layer(None, tuple(kind for kind in KINDS.values() if kind in kinds), zooms.most_common(1)[0][0], None, dict(list(fields.items())[:MOST_TAGS]))
@@ -300,11 +317,12 @@ class SchemaFile:
     """The schema in a file, which is read anew when the file changes. Without a path, or a file, it has no layers. What is wrong in it is printed
     once, and what it had before goes on."""
 
-    def __init__(self, path=None):
-        self.path, self.now, self.seen = path, Schema(), None
+    def __init__(self, path: str | None = None) -> None:
+        self.path, self.now = path, Schema()
+        self.seen: tuple[int, int, int] | None = None
         self.look()
 
-    def look(self):
+    def look(self) -> bool:
         """Reads the file if it has changed. Returns whether the schema is another one."""
         seen = self.stamp()
         if seen == self.seen:
@@ -318,7 +336,7 @@ class SchemaFile:
         is_other, self.now = made.text() != self.now.text(), made
         return is_other
 
-    def stamp(self):
+    def stamp(self) -> tuple[int, int, int] | None:
         """What changes with the file; None if there is none."""
         try:
             found = os.stat(self.path) if self.path else None
@@ -326,15 +344,17 @@ class SchemaFile:
             return None
         return found and (found.st_mtime_ns, found.st_size, found.st_ino)
 
-    def read(self):
+    def read(self) -> Schema:
         """The schema in the file."""
         if not self.path or not os.path.exists(self.path):
             return Schema()
         with open(self.path, "rb") as file:
             return parsed(file.read(MOST_BYTES + 1).decode())
 
-    def add(self, more):
+    def add(self, more: Schema) -> Schema:
         """Adds what another schema has more, to the file as it is now."""
+        if not self.path:
+            raise Refused("there is no file that has the schema")
         made = self.read().added(more)
         replaced(regular(self.path), made.text())
         return made

@@ -5,57 +5,72 @@ them on has their bodies, and for a checked edit what it replaced. The gateway's
 the time of a gap, and is no other edit of the log, is what is missing, in the order of the times, if there are as many requests as numbers. A gap
 isn't filled if a later edit of the log says of a feature that it was something else.
 """
+from __future__ import annotations
+
 import json
-from collections import defaultdict, namedtuple
+from collections import defaultdict
+from collections.abc import Callable, Iterable, Iterator
 from datetime import datetime, timezone
+from typing import List, NamedTuple
 
 from ..client.edits import encoded
+from ..forms import Feature, ListedChange, LogRow, id_of
 from .edit_log import time_of
 from .proxy_log import SLACK, changes_of, key_of, number_in, parsed
 
-# The numbers of a gap, and the times between which its edits were sent.
-Gap = namedtuple("Gap", "first last begins ends")
+
+class Gap(NamedTuple):
+    """The numbers of a gap, and the times between which its edits were sent."""
+
+    first: int
+    last: int
+    begins: float
+    ends: float
 
 
 class Request:
     """What somebody sent: when, the number of the edit if that is known, and the changes if they may be needed."""
 
-    def __init__(self, time, number, changes):
+    def __init__(self, time: float, number: int | None, changes: list[ListedChange] | None) -> None:
         self.time, self.number, self.changes, self.is_used = time, number, changes, False
 
 
-def seen_at(row):
+def seen_at(row: LogRow) -> float:
     """When the edit of a row was seen, in seconds since 1970."""
     return time_of(row).timestamp()
 
 
-def id_of(change):
-    """The id of the feature of a change."""
-    return change.get("put", change.get("delete"))
-
-
-def is_same(one, other):
+def is_same(one: object, other: object) -> bool:
     """Whether two features, or nothing, are equal."""
     return encoded(one) == encoded(other)
+
+
+def with_was(change: ListedChange, was: Feature | None) -> ListedChange:
+    """A change with what it replaces."""
+    made = change.copy()
+    made["was"] = was
+    return made
 
 
 class Known:
     """What features are after an edit, as far as that is known, and in which gap they were changed last. `ids`: of which features it is kept."""
 
-    def __init__(self, ids):
-        self.ids, self.features, self.gaps = ids, {}, {}
+    def __init__(self, ids: set[int]) -> None:
+        self.ids = ids
+        self.features: dict[int, Feature | None] = {}
+        self.gaps: dict[int, int | None] = {}
 
-    def allows(self, change):
+    def allows(self, change: ListedChange) -> bool:
         """Whether a change can have replaced what it says."""
         number = id_of(change)
         return "was" not in change or number not in self.features or is_same(self.features[number], change["was"])
 
-    def take(self, change, gap):
+    def take(self, change: ListedChange, gap: int | None) -> ListedChange:
         """Makes a change, of a gap or of none. Returns it with what it replaces, if that is known."""
         number = id_of(change)
         if number not in self.ids:
             return change
-        made = change if "was" in change or number not in self.features else {**change, "was": self.features[number]}
+        made = change if "was" in change or number not in self.features else with_was(change, self.features[number])
         self.features[number], self.gaps[number] = change.get("feature"), gap
         return made
 
@@ -63,10 +78,14 @@ class Known:
 class Missed:
     """What a log misses. `read`: gives its rows, each time anew. `lines`: those of nginx's logs and of the gateway's."""
 
-    def __init__(self, read, lines):
-        self.read, self.gaps, self.unsure = read, [], set()
+    def __init__(self, read: Callable[[], Iterable[LogRow]], lines: Iterable[bytes]) -> None:
+        self.read = read
+        self.gaps: list[Gap] = []
+        self.unsure: set[bytes] = set()
         # The requests by the hash of what they change, the rows of each gap that is filled, and the features of which it is asked what they were.
-        self.requests, self.filled, self.ids = defaultdict(list), {}, set()
+        self.requests = defaultdict[bytes, List[Request]](list)
+        self.filled: dict[int, list[LogRow]] = {}
+        self.ids: set[int] = set()
         self.see()
         if self.gaps or self.unsure:
             self.take(lines)
@@ -78,7 +97,7 @@ class Missed:
 
     # ---- the log
 
-    def see(self):
+    def see(self) -> None:
         """Finds the gaps, and the edits of which it isn't known what they replaced."""
         begins = 0.0
         for row in self.read():
@@ -92,7 +111,7 @@ class Missed:
 
     # ---- the requests
 
-    def take(self, lines):
+    def take(self, lines: Iterable[bytes]) -> None:
         """Takes the lines. Changes are kept of those that may be needed."""
         for line in lines:
             try:
@@ -106,7 +125,7 @@ class Missed:
         for found in self.requests.values():
             found.sort(key=lambda request: request.time)
 
-    def match(self):
+    def match(self) -> None:
         """Finds the request of each edit of the log."""
         for row in self.read():
             if "edit" in row and (found := self.requests.get(key_of(row["changes"]))):
@@ -116,14 +135,14 @@ class Missed:
                     if request.number is None:
                         request.number = row["edit"]
 
-    def fill(self):
+    def fill(self) -> None:
         """Gives what was sent in the time of each gap its numbers, if that is possible."""
         for gap in self.gaps:
             numbers = range(gap.first, gap.last + 1)
             left = [one for found in self.requests.values() for one in found if not one.is_used]
             known = {one.number: one for one in left if one.number in numbers}
             # The same request by the gateway and by nginx, which it passed, is one.
-            twice = {key_of(one.changes) for one in known.values()}
+            twice = {key_of(one.changes or ()) for one in known.values()}
             others = [one for one in left if one.number is None and one.changes is not None and gap.begins <= one.time <= gap.ends
                       and key_of(one.changes) not in twice]
             free = [number for number in numbers if number not in known]
@@ -134,7 +153,7 @@ class Missed:
 
     # ---- the log with what it missed
 
-    def rows(self, contradicted=None):
+    def rows(self, contradicted: set[int] | None = None) -> Iterator[LogRow]:
         """The rows, with those of the gaps that are filled, and with what changes replaced as far as that is known. `contradicted`: gets the first
         numbers of the gaps that aren't as the edits around them say."""
         known = Known(self.ids)
@@ -148,7 +167,7 @@ class Missed:
                 known = Known(self.ids)
                 yield row
 
-    def completed(self, row, known, gap, contradicted):
+    def completed(self, row: LogRow, known: Known, gap: int | None, contradicted: set[int] | None) -> LogRow:
         """A row of an edit, with what its changes replaced. `gap`: the first number of that which it is in."""
         changes, sent = [], self.replaced_by(row)
         for change in row["changes"]:
@@ -156,29 +175,31 @@ class Missed:
             guilty = known.gaps.get(number) if gap is None else gap
             if contradicted is not None and guilty is not None and not known.allows(change):
                 contradicted.add(guilty)
-            changes.append(known.take({**change, "was": sent[number]} if number in sent else change, gap))
-        return {**row, "changes": changes}
+            changes.append(known.take(with_was(change, sent[number]) if number in sent else change, gap))
+        made = row.copy()
+        made["changes"] = changes
+        return made
 
-    def replaced_by(self, row):
+    def replaced_by(self, row: LogRow) -> dict[int, Feature | None]:
         """What an edit of which that isn't known replaced, by the checked edit that was sent."""
         if all("was" in change for change in row["changes"]):
             return {}
         sent = next((one for one in self.requests.get(key_of(row["changes"]), ()) if one.number == row["edit"] and one.changes), None)
-        return {id_of(change): change["was"] for change in sent.changes if "was" in change} if sent else {}
+        return {id_of(change): change["was"] for change in sent.changes or () if "was" in change} if sent else {}
 
-    def contradicted(self):
+    def contradicted(self) -> set[int]:
         """The first numbers of the gaps of which a later edit of the log says something else."""
         found = set()
         for _ in self.rows(found):
             pass
         return found
 
-    def left(self):
+    def left(self) -> list[tuple[int, int]]:
         """The numbers of the gaps that aren't filled."""
         return [(gap.first, gap.last) for gap in self.gaps if gap.first not in self.filled]
 
 
-def request_of(found, number, seen):
+def request_of(found: list[Request], number: int, seen: float) -> Request | None:
     """Which of several equal requests, in the order of their times, is an edit of a number, which was seen at a time: the last one before it."""
     if named := [one for one in found if one.number == number]:
         return named[0]
@@ -187,13 +208,17 @@ def request_of(found, number, seen):
     return before[-1] if before else free[0] if free else None
 
 
-def row_of(number, request):
+def row_of(number: int, request: Request) -> LogRow:
     """The row of an edit that was sent."""
     time = datetime.fromtimestamp(request.time, timezone.utc).isoformat(timespec="milliseconds").replace("+00:00", "Z")
-    return {"time": time, "edit": number, "changes": [change_of(change) for change in request.changes]}
+    return {"time": time, "edit": number, "changes": [change_of(change) for change in request.changes or ()]}
 
 
-def change_of(change):
+def change_of(change: ListedChange) -> ListedChange:
     """A change as the log has it."""
-    kept = {"put": change["put"], "feature": change["feature"]} if "put" in change else {"delete": change["delete"]}
-    return {**kept, "was": change["was"]} if "was" in change else kept
+    kept: ListedChange
+    if "put" in change:
+        kept = {"put": change["put"], "feature": change["feature"]}
+    else:
+        kept = {"delete": change["delete"]}
+    return with_was(kept, change["was"]) if "was" in change else kept

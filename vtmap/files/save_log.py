@@ -4,16 +4,26 @@ Each line is JSON. `{"begun": ID, "session": NAME, "groups": ..}` is on the disk
 each edit that was made, and `{"saved": ID, ..}` or `{"undone": ID}`. A save that is only begun was cut short. `{"emptied": [LAYER, KIND], ..}` has what
 a table had that lost its last feature.
 """
+from __future__ import annotations
+
 import json
 import os
 import time
 from collections import Counter
-from typing import Any
+from collections.abc import Mapping
+from typing import IO, TYPE_CHECKING, Any, List
 
 from ..client.edits import Change
 from ..ending import regular, replaced
 from ..faults import Refused
 from ..systems import lock
+
+
+if TYPE_CHECKING:
+    from ..gateway.tables import Past
+
+# The changes of a save, in groups each of which is one edit.
+Groups = List[List[Change]]
 
 
 class Unwritable(Refused):
@@ -23,22 +33,25 @@ class Unwritable(Refused):
 class SaveLog:
     """The log at a path; None: nothing outlives the process. What can't be written isn't noted."""
 
-    def __init__(self, path):
+    def __init__(self, path: str | None) -> None:
         self.path, self.next = path, 1
         self.file: Any = None
         # What comes before the next line: a line feed, if a part of a line may have been written.
         self.before = ""
         # The saves that were cut short: their groups of changes, and how many of them were made, by their ids. The lines of those that were done.
-        self.begun, self.sent, self.done = {}, Counter(), []
+        self.begun: dict[int, Groups] = {}
+        self.sent = Counter[int]()
+        self.done: list[dict[str, Any]] = []
         # By layer and kind: what tables had that lost their last feature. The lines of it.
-        self.emptied, self.emptied_rows = {}, {}
+        self.emptied: dict[tuple[str, str], tuple[dict[str, str], tuple[int, ...], bool]] = {}
+        self.emptied_rows: dict[tuple[str, str], dict[str, Any]] = {}
         if path:
             self.lock = locked(path + ".lock")
             self.read()
 
-    def read(self):
+    def read(self) -> None:
         """Reads the log. A crash may have left a part of a line at its end."""
-        if os.path.exists(regular(self.path)):
+        if self.path and os.path.exists(regular(self.path)):
             with open(self.path, encoding="utf-8", errors="replace") as file:
                 for line in file:
                     try:
@@ -46,7 +59,7 @@ class SaveLog:
                     except ValueError:
                         continue
 
-    def take(self, row):
+    def take(self, row: dict[str, Any]) -> None:
         """Takes a line."""
         if "begun" in row:
             self.begun[row["begun"]] = groups_of(row["groups"])
@@ -60,14 +73,14 @@ class SaveLog:
             if "saved" in row:
                 self.done.append(row)
 
-    def take_emptied(self, row):
+    def take_emptied(self, row: dict[str, Any]) -> None:
         """Takes a line about a table that lost its last feature."""
         layer, kind = row["emptied"]
         self.emptied.pop((layer, kind), None)
         self.emptied[layer, kind] = row["forms"], tuple(row["zooms"]), row["is_several"]
         self.emptied_rows[layer, kind] = row
 
-    def shorten(self, oldest):
+    def shorten(self, oldest: float) -> None:
         """Writes the log anew, without what was saved, or emptied, before a time."""
         if self.path:
             self.done = [row for row in self.done if row["time"] >= oldest]
@@ -78,33 +91,33 @@ class SaveLog:
             replaced(self.path, "".join(json.dumps(row) + "\n" for row in rows))
             self.file = open(self.path, "ab", buffering=0)
 
-    def begin(self, groups):
+    def begin(self, groups: Groups) -> int:
         """Notes what is to be sent. Returns the id of the save."""
         number, self.next = self.next, self.next + 1
         self.write(begun_row(number, groups), True)
         self.begun[number] = groups
         return number
 
-    def made(self, number):
+    def made(self, number: int) -> None:
         """Notes that the next group of a save was made."""
         self.sent[number] += 1
         self.write({"sent": number})
 
-    def finish(self, number, session, **told):
+    def finish(self, number: int, session: str, **told: object) -> None:
         """Notes that a save was done, and what the GIS has since."""
         self.write({"saved": number, "session": session, "time": int(time.time()), **told}, True)
         del self.begun[number]
 
-    def undo(self, number):
+    def undo(self, number: int) -> None:
         """Notes that nothing of a save is left."""
         self.write({"undone": number}, True)
         del self.begun[number]
 
-    def empty(self, key, past):
+    def empty(self, key: tuple[str, str], past: Past) -> None:
         """Notes what a table had that has lost its last feature."""
         self.write({"emptied": key, "time": int(time.time()), **past._asdict()})
 
-    def write(self, row, is_kept=False):
+    def write(self, row: Mapping[str, object], is_kept: bool = False) -> None:
         """Appends a line. One that is kept outlives a crash of the machine."""
         if self.path is None:
             return
@@ -120,7 +133,7 @@ class SaveLog:
             raise Unwritable(f"{self.path} can't be written: {fault.strerror}") from fault
 
 
-def locked(path):
+def locked(path: str) -> IO[bytes]:
     """A file that nobody else can lock meanwhile."""
     file = open(path, "ab")
     if not lock(file):
@@ -128,16 +141,16 @@ def locked(path):
     return file
 
 
-def begun_row(number, groups):
+def begun_row(number: int, groups: Groups) -> dict[str, object]:
     """The line of a save that is begun."""
     return {"begun": number, "groups": [[[change.number, text(change.body), change.text, text(change.was)] for change in group] for group in groups]}
 
 
-def groups_of(rows):
+def groups_of(rows: list) -> Groups:
     """The groups of changes of such a line."""
     return [[Change(number, body and body.encode(), size, was and was.encode()) for number, body, size, was in group] for group in rows]
 
 
-def text(body):
+def text(body: bytes | None) -> str | None:
     """The JSON of a feature as a text."""
     return None if body is None else body.decode()
