@@ -1,18 +1,23 @@
 """`vtmap save` and `vtmap load`: the features of a map in a file, and back. Needs no package."""
+from __future__ import annotations
+
+import argparse
 import json
 import os
 from collections import Counter
+from collections.abc import Iterable, Iterator, Mapping
 from datetime import datetime, timezone
 from itertools import chain
 
 from ..client.client import Client, word
-from ..client.edits import NOTHING, delete, encoded, put
+from ..client.edits import NOTHING, Change, delete, encoded, put
 from ..ending import regular
 from ..faults import Refused, Stopped
 from ..files.archive_ids import ids_in
 from ..files.attachments import PATH, Attachments, Use, saved as copied
 from ..files.disk_file import moment_of
 from ..files.past import drop_number, keep_number
+from ..forms import Feature, Status
 from ..geometry.geojson import feature_of, geojson_of
 from ..geometry.wholes import right_handed, wholes_of
 from ..limits import MOST_CHANGES
@@ -64,14 +69,14 @@ START, END = '{"type":"FeatureCollection","features":[', "\n]}\n"
 START_OF_WHOLES = '{"type":"FeatureCollection","wholes":true,"features":['
 
 
-def listed(client, status):
+def listed(client: Client, status: Status | None) -> Iterator[tuple[int, Feature]]:
     """Each feature of the map with its id, in ascending order. `status`: what the server tells of itself."""
     if status is None:
         raise Refused("the server doesn't list its features: start it with --admin, or give --disk, --numbers or --archive")
     return client.features()
 
 
-def ids_of_archive(client):
+def ids_of_archive(client: Client) -> list[int]:
     """The ids in the tiles of the map, which is published for it."""
     client.publish()
     status, archive = client.ask("GET", "/map.pmtiles")
@@ -84,12 +89,12 @@ def ids_of_archive(client):
     return ids_in(archive)
 
 
-def is_list(words):
+def is_list(words: argparse.Namespace) -> bool:
     """Whether the server's list of features is asked for."""
     return words.numbers is None and not words.archive
 
 
-def wanted(words, client, status):
+def wanted(words: argparse.Namespace, client: Client, status: Status | None) -> Iterable[tuple[int, Feature | None]]:
     """Each id that is asked for, with its feature or None."""
     if is_list(words):
         return listed(client, status)
@@ -97,18 +102,18 @@ def wanted(words, client, status):
     return ((number, client.feature(number)) for number in numbers)
 
 
-def is_lines(name):
+def is_lines(name: str) -> bool:
     return name.endswith(".jsonl")
 
 
-def row_of(number, feature, lines):
+def row_of(number: int, feature: Feature, lines: bool) -> str:
     """A feature as a line of the file."""
     if lines:
         return json.dumps({"feature": feature, "id": number}, ensure_ascii=False, separators=(",", ":"), sort_keys=True)
     return json.dumps(geojson_of(number, feature), ensure_ascii=False)
 
 
-def written(path, features, start):
+def written(path: str, features: Iterable[tuple[int, Feature]], start: str) -> int:
     """Writes the file, which has what it had until all features are there. Returns how many they are."""
     saved, lines = 0, is_lines(path)
     with open(regular(path) + ".part", "w", encoding="utf-8", newline="\n") as file:
@@ -123,18 +128,18 @@ def written(path, features, start):
     return saved
 
 
-def edit_of(client, before):
+def edit_of(client: Client, before: Status | None) -> int | None:
     """The edit of what was listed since a status; None if that isn't known, or others were made meanwhile."""
     after = client.status() if before else None
-    return after["edits"] if after and after["edits"] == before["edits"] else None
+    return after["edits"] if before and after and after["edits"] == before["edits"] else None
 
 
-def files_beside(path):
+def files_beside(path: str) -> Attachments:
     """The folder of photos and files beside a file of features."""
     return Attachments(os.path.join(os.path.dirname(os.path.abspath(path)), PATH.rstrip("/")))
 
 
-def save_files(words, use):
+def save_files(words: argparse.Namespace, use: Use) -> bool:
     """Copies the files of a folder, and says which aren't there that features name. Returns whether none is damaged."""
     kept, beside = Attachments(words.files), files_beside(words.file)
     done, there, damaged = copied(kept, beside)
@@ -148,7 +153,7 @@ def save_files(words, use):
     return not damaged
 
 
-def load_files(words, rows):
+def load_files(words: argparse.Namespace, rows: Iterable[tuple[int, Feature]]) -> bool:
     """Copies the files that features name back into a folder."""
     kept, beside = Attachments(words.files), files_beside(words.file)
     wanted = sorted(Use.of(rows).named)
@@ -158,17 +163,21 @@ def load_files(words, rows):
     return not lost
 
 
-def save(words):
+def save(words: argparse.Namespace) -> int:
     """Saves features in the file."""
     begun = datetime.now(timezone.utc)
     moment = moment_of(words.disk) if words.disk else None
-    client = None if moment else Client(words.url)
+    client = None if moment is not None else Client(words.url)
     before = client.status() if client and is_list(words) else None
     by = datetime.now(timezone.utc)
-    found = moment.features.items() if moment else wanted(words, client, before)
+    found: Iterable[tuple[int, Feature | None]] = ()
+    if client is not None:
+        found = wanted(words, client, before)
+    elif moment is not None:
+        found = moment.features.items()
     missing, use = [], Use({})
 
-    def there():
+    def there() -> Iterator[tuple[int, Feature]]:
         for number, feature in found:
             if feature is None:
                 missing.append(number)
@@ -179,7 +188,7 @@ def save(words):
     features = ((whole.number, right_handed(whole.feature)) for whole in wholes_of(there())) if words.wholes else there()
     saved = written(words.file, features, START_OF_WHOLES if words.wholes else START)
     after = begun if moment else datetime.now(timezone.utc)
-    edit = moment.edit if moment else edit_of(client, before)
+    edit = moment.edit if moment else edit_of(client, before) if client else None
     if edit is None or words.wholes:
         drop_number(words.file)
     else:
@@ -192,7 +201,7 @@ def save(words):
     return 0 if words.files is None or save_files(words, use) else 1
 
 
-def saved_in(path):
+def saved_in(path: str) -> list[tuple[int, Feature]]:
     """The ids and features of a file."""
     try:
         with open(path, encoding="utf-8") as file:
@@ -206,7 +215,7 @@ def saved_in(path):
     raise Refused(f"{path} was saved with --wholes: put it into a map by `vtmap import`, which cuts large features again")
 
 
-def changes_for(rows, there, overwrites):
+def changes_for(rows: Iterable[tuple[int, Feature]], there: Mapping[int, bytes], overwrites: bool) -> list[Change]:
     """The checked edits that put the features of a file into a map that has others, which they don't replace unless that is wanted."""
     made = [put(number, feature)._replace(was=there.get(number, NOTHING)) for number, feature in rows]
     made = [change for change in made if change.was != change.body]
@@ -216,7 +225,7 @@ def changes_for(rows, there, overwrites):
     return made
 
 
-def deletions_for(rows, there, many):
+def deletions_for(rows: Iterable[tuple[int, Feature]], there: Mapping[int, bytes], many: bool) -> list[Change]:
     """The checked edits that delete what the map has and the file doesn't. Says what that is. Very many are taken for a mistake."""
     known = {number for number, _ in rows}
     gone = {number: was for number, was in there.items() if number not in known}
@@ -228,7 +237,7 @@ def deletions_for(rows, there, many):
     return [delete(number)._replace(was=was) for number, was in gone.items()]
 
 
-def load(words):
+def load(words: argparse.Namespace) -> int:
     """Puts the features of the file back."""
     # Of an id that the file has twice, the last feature counts.
     rows = list(dict(saved_in(words.file)).items())
@@ -253,7 +262,7 @@ def load(words):
     return 0 if are_there else 1
 
 
-def options(parser, name):
+def options(parser: argparse.ArgumentParser, name: str) -> None:
     """The words of a command."""
     parser.add_argument("file", help="the GeoJSON file, or a file of lines of JSON if its name ends in .jsonl")
     parser.add_argument("--files", metavar="FOLDER", help="the folder of photos and files, which are kept beside FILE in the folder `files`")
@@ -271,11 +280,11 @@ def options(parser, name):
     parser.add_argument("--no-batches", action="store_true", help="put each feature in a request of its own")
 
 
-def work(words):
+def work(words: argparse.Namespace) -> int:
     """Runs a command."""
     return save(words) if words.command == "save" else load(words)
 
 
-def interrupted(words):
+def interrupted(words: argparse.Namespace) -> str:
     """What to do after an interruption."""
     return f"{words.file} is as it was" if words.command == "save" else "run the same command again"

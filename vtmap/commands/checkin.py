@@ -1,16 +1,21 @@
 """`vtmap checkin`: sends what was edited in a GeoPackage that `vtmap checkout` wrote. Needs GDAL's Python module for shapes that are cut alone."""
+from __future__ import annotations
+
+import argparse
 import sqlite3
 from collections import Counter
+from collections.abc import Container, Mapping
 
 from ..client.client import Client
 from ..client.edits import checked, delete, put
 from ..client.schema import schema_at
 from ..files import geopackage
-from ..files.checkout_file import Checkout, Unusable, there
+from ..files.checkout_file import Checkout, Row, Unusable, there
 from ..files.map_schema import missing
+from ..forms import Feature
 from ..geometry.pieces import pieces_of
 from ..geometry.shapes import Unfit
-from ..geometry.wholes import WHOLE, wholes_of
+from ..geometry.wholes import WHOLE, Whole, wholes_of
 from ..interpreters import look_for
 from ..shown import shown
 from .checkout import Choice, needed
@@ -30,7 +35,7 @@ name (`vtmap schema`). --dry-run sends nothing and lists. The server is the one
 that the file was checked out of, unless --url says another. It ends with 1 if there are conflicts or refusals."""}
 
 
-def options(parser, _):
+def options(parser: argparse.ArgumentParser, _: str) -> None:
     """The words of the command."""
     parser.add_argument("file", help="the GeoPackage that `vtmap checkout` wrote")
     parser.add_argument("--mine", type=lambda text: text.split(","), default=[], help="ids of which what you changed is put over what others changed")
@@ -40,14 +45,14 @@ def options(parser, _):
     parser.add_argument("--publish", action="store_true", help="publish when the journal is full")
 
 
-def seen_of(base, now):
+def seen_of(base: Whole, now: Mapping[int, Feature]) -> Whole | None:
     """What the map has now of a whole: the whole, with its features by their ids, or None."""
     pieces = {number: now[number] for number in base.pieces if number in now}
     whole = next(iter(wholes_of(pieces.items())), None)
     return whole and whole._replace(pieces=pieces)
 
 
-def there_of(row, now):
+def there_of(row: Row, now: Mapping[int, Feature]) -> dict[int, Feature]:
     """What the map has of a row that is sent: of a new one, what was sent for it before, since its author has seen nothing else."""
     return there([*row.base.pieces, *(number for number in row.wanted if number not in row.base.pieces)], now) if row.base else row.seen
 
@@ -55,12 +60,12 @@ def there_of(row, now):
 class Checkin:
     """Sends what was changed, and counts."""
 
-    def __init__(self, words, client, file):
+    def __init__(self, words: argparse.Namespace, client: Client, file: Checkout) -> None:
         self.words, self.client, self.file, self.schema = words, client, file, schema_at(client, words.schema)
         self.conflicts = self.refused = 0
         self.done = Counter()
 
-    def run(self):
+    def run(self) -> int:
         """Sends what was changed in the file."""
         status = needed(self.client.status())
         now = dict(self.client.features())
@@ -79,12 +84,12 @@ class Checkin:
         self.tell_others(now, {row.number for row in rows})
         return self.told(sent)
 
-    def refuse_many(self, gone):
+    def refuse_many(self, gone: list[Row]) -> None:
         """Takes very many deletions for a mistake."""
         if are_many(len(gone), len(self.file.base)) and not self.words.delete_many:
             raise Unusable(f"{len(gone):,} of {len(self.file.base):,} features are gone from the file: give --delete-many if they are to be deleted")
 
-    def adopt(self, now):
+    def adopt(self, now: dict[int, Feature]) -> None:
         """Finds the new features of an earlier checkin that are on the map, though no reply said so."""
         self.file.part(now)
         for row in self.file.adopt(now):
@@ -92,7 +97,7 @@ class Checkin:
             if not self.words.dry_run:
                 self.finish(row)
 
-    def give_ids(self, rows, now, free):
+    def give_ids(self, rows: list[Row], now: dict[int, Feature], free: int) -> None:
         """Gives new features ids that are free, on the map and in the file. A row keeps the one that was noted for it, if nobody else has it."""
         given, taken = set(), self.file.ids()
         for row in rows:
@@ -103,7 +108,7 @@ class Checkin:
                 taken.add(free)
             given.add(row.number)
 
-    def is_sent(self, row, now):
+    def is_sent(self, row: Row, now: dict[int, Feature]) -> bool:
         """Whether a row is to be sent: what the map has of it is what was checked out, or its author says so."""
         base, mine = row.base, told_change(row.shown, row.said) if row.base else "new"
         theirs = base and seen_of(base, now)
@@ -126,26 +131,27 @@ class Checkin:
         print(f"{'would be sent' if self.words.dry_run else 'sending' if row.changes else 'on the map already'}: {row}: {mine}")
         return True
 
-    def fit(self, row):
+    def fit(self, row: Row) -> None:
         """Gives a row that is sent the values that the schema has. Raises `Unfit`."""
-        rules = row.feature and self.schema.layers.get(row.feature["layer"])
-        if not rules:
+        feature = row.feature
+        rules = self.schema.layers.get(feature["layer"]) if feature else None
+        if feature is None or rules is None:
             return
         before = row.base.feature["tags"] if row.base else None
-        tags = rules.fitted(row.feature["tags"], before)
+        tags = rules.fitted(feature["tags"], before)
         known = {tag for tag, _ in self.file.columns[row.table].values()} | set(before or ())
         unknown = [tag for tag in rules.unknown(tags) if tag not in known]
-        fault = missing(row.feature["layer"], *unknown) if unknown else rules.fault(before, tags)
+        fault = missing(feature["layer"], *unknown) if unknown else rules.fault(before, tags)
         if fault:
             raise Unfit(fault)
-        row.feature = {**row.feature, "tags": tags}
+        row.feature = {**feature, "tags": tags}
 
-    def is_changed(self, row, now):
+    def is_changed(self, row: Row, now: dict[int, Feature]) -> bool:
         """Whether somebody else has changed a feature of a row: it is neither as it was checked out nor as the row is to be."""
-        ids = {*row.base.pieces, *row.wanted}
-        return any(now.get(number) not in (row.base.pieces.get(number), row.wanted.get(number)) for number in ids)
+        was = row.base.pieces if row.base else {}
+        return any(now.get(number) not in (was.get(number), row.wanted.get(number)) for number in {*was, *row.wanted})
 
-    def send(self, rows):
+    def send(self, rows: list[Row]) -> None:
         """Sends rows, and remembers those that are made. What is sent for new ones is noted before: they are made once if no reply comes."""
         owners = {change.number: row for row in rows for change in row.changes}
         if len({row.number for row in rows}) < len(rows) or len(owners) < sum(len(row.changes) for row in rows):
@@ -163,7 +169,7 @@ class Checkin:
             if not row.changes:
                 self.finish(row)
 
-    def finish(self, row):
+    def finish(self, row: Row) -> None:
         """Remembers a row that was sent, or tells why it is refused."""
         if not row.refusals:
             self.file.remember(row)
@@ -174,7 +180,7 @@ class Checkin:
         self.refused += not refusal.is_conflict
         print(f"{'conflict' if refusal.is_conflict else 'refused'}: {row}: {refusal}")
 
-    def tell_others(self, now, mine):
+    def tell_others(self, now: dict[int, Feature], mine: Container[int | None]) -> None:
         """Lists what others changed of what was checked out, and what they added."""
         ours = {number for base in self.file.base.values() for number in base.pieces}
         for _, base in sorted(self.file.base.items()):
@@ -186,14 +192,14 @@ class Checkin:
             if whole.number not in mine and whole.feature["tags"].get(WHOLE) not in ours and choice.has(whole):
                 print(f"new by others: {shown(whole.feature['layer'])} {whole.number}")
 
-    def told(self, rows):
+    def told(self, rows: list[Row]) -> int:
         """Tells the counts, and gives the status of the process."""
         counts = ", ".join(f"{self.done[name]:,} {name}" for name in ("new", "changed", "deleted"))
         print(f"{counts}, {self.conflicts} conflicts, {self.refused} refused" + (f"; {len(rows):,} would be sent" if self.words.dry_run else ""))
         return 1 if self.conflicts or self.refused else 0
 
 
-def work(words):
+def work(words: argparse.Namespace) -> int:
     """Sends what was changed in the file, in an interpreter that has GDAL's module if there is one."""
     look_for("osgeo", words.line)
     file = Checkout(words.file)
@@ -206,6 +212,6 @@ def work(words):
         file.file.close()
 
 
-def interrupted(_):
+def interrupted(_: argparse.Namespace) -> str:
     """What to do after an interruption."""
     return "run the same command again: nothing is made twice"

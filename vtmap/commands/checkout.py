@@ -1,4 +1,6 @@
 """`vtmap checkout`: writes features of the map into a GeoPackage, for a desktop GIS. Needs no package."""
+from __future__ import annotations
+
 import argparse
 import os
 import sqlite3
@@ -8,8 +10,9 @@ from ..ending import regular
 from ..faults import Stopped
 from ..files.base_file import types_in
 from ..files.checkout_file import Unusable, write
+from ..forms import Feature, Status
 from ..geometry.shapes import points_of
-from ..geometry.wholes import wholes_of
+from ..geometry.wholes import Whole, wholes_of
 from ..geometry.world import world
 
 ABOUT = {"checkout": """Writes a GeoPackage with a table for each layer of the map, to edit it in QGIS, or what else edits such files.
@@ -24,7 +27,7 @@ or FILE.base beside the imported file), gives their columns the types that they 
 the file isn't touched by `vtmap checkin`. The server needs --admin."""}
 
 
-def options(parser, _):
+def options(parser: argparse.ArgumentParser, _: str) -> None:
     """The words of the command."""
     parser.add_argument("file", help="the GeoPackage (.gpkg) that is written")
     parser.add_argument("--layer", action="append", help="a layer of the map; may be repeated (all)")
@@ -33,7 +36,7 @@ def options(parser, _):
     parser.add_argument("--force", action="store_true", help="replace the file if it is there")
 
 
-def box_of(text):
+def box_of(text: str) -> list[float]:
     """The box of four numbers."""
     west, south, east, north = map(float, text.split(","))
     if not (-180 <= west < east <= 180 and -85.06 <= south < north <= 85.06):
@@ -44,16 +47,16 @@ def box_of(text):
 class Choice:
     """Which features are chosen, by their layers and a box."""
 
-    def __init__(self, layers, box):
+    def __init__(self, layers: list[str] | None, box: list[float] | None) -> None:
         self.layers, self.box = layers, box
         if box:
             west, south, east, north = box
             self.corners = world((west, north)), world((east, south))
 
-    def has(self, whole):
+    def has(self, whole: Whole) -> bool:
         return self.meets(whole.feature)
 
-    def meets(self, feature):
+    def meets(self, feature: Feature) -> bool:
         if self.layers and feature["layer"] not in self.layers:
             return False
         if not self.box:
@@ -63,7 +66,7 @@ class Choice:
         return min(xs) <= east and max(xs) >= west and min(ys) <= south and max(ys) >= north
 
 
-def work(words):
+def work(words: argparse.Namespace) -> int:
     """Writes the file."""
     if os.path.exists(regular(words.file)) and not words.force:
         raise Unusable(f"{words.file} exists: check it in, and give --force to write it anew")
@@ -82,7 +85,7 @@ def work(words):
     return 0
 
 
-def needed(status):
+def needed(status: Status | None) -> Status:
     """The status, which a server without --admin doesn't tell."""
     if status is None:
         raise Stopped("the server doesn't list its features: start it with --admin")

@@ -1,10 +1,15 @@
 """`vtmap delete-layer`: deletes the features of layers. Needs no package."""
+from __future__ import annotations
+
+import argparse
 from collections import Counter
+from collections.abc import Container, Iterable
 from itertools import chain
 
 from ..client.client import Client, Full
-from ..client.edits import DELETES_OF_A_SECTOR, batches, checked, delete
+from ..client.edits import DELETES_OF_A_SECTOR, Change, batches, checked, delete
 from ..faults import Fault, NoAnswer, Stopped
+from ..forms import Feature, Status
 from ..progress import with_progress
 from ..shown import shown
 from .ids import ranges
@@ -25,7 +30,7 @@ If the journal hasn't, nothing is deleted, and it says so; --anyway deletes as m
 It prints how many features of each layer are deleted. It ends with 1 if some are left."""}
 
 
-def options(parser, _):
+def options(parser: argparse.ArgumentParser, _: str) -> None:
     """The words of the command."""
     parser.add_argument("layers", nargs="+", metavar="LAYER", help="the name of a layer")
     parser.add_argument("--numbers", type=ranges, help="the ids to ask for, as in 1-3000,5000, instead of the whole list")
@@ -33,8 +38,9 @@ def options(parser, _):
     parser.add_argument("--anyway", action="store_true", help="delete as many as there is room for on a disk that is full")
 
 
-def found_in(client, layers, numbers):
+def found_in(client: Client, layers: Container[str], numbers: Iterable[range] | None) -> dict[int, Feature]:
     """The features of these layers, by their ids: of the whole map, or of these ids."""
+    there: Iterable[tuple[int, Feature | None]]
     if numbers is not None:
         there = ((number, client.feature(number)) for number in chain.from_iterable(numbers))
     elif client.status() is not None:
@@ -44,12 +50,12 @@ def found_in(client, layers, numbers):
     return {number: feature for number, feature in there if feature is not None and feature["layer"] in layers}
 
 
-def free_in(status):
+def free_in(status: Status) -> int:
     """The sectors of the journal that are free."""
     return status["journal"]["places"] - status["journal"]["used"]
 
 
-def changes_for(client, found, anyway):
+def changes_for(client: Client, found: dict[int, Feature], anyway: bool) -> list[Change]:
     """The deletions: checked ones if the journal has, or gets by a publication, a sector for each request. Raises `Stopped` if neither they nor
     those that take the fewest sectors have room, unless that is wanted `anyway`."""
     plain = [delete(number) for number in found]
@@ -71,12 +77,12 @@ def changes_for(client, found, anyway):
         return plain
 
 
-def count(groups):
+def count(groups: Iterable[object]) -> int:
     """How many groups there are."""
     return sum(1 for _ in groups)
 
 
-def delete_all(client, found, deleted, anyway):
+def delete_all(client: Client, found: dict[int, Feature], deleted: Counter[str], anyway: bool) -> bool:
     """Deletes the features. Counts those of each layer that are deleted. Returns whether all are."""
     for change, refusal in with_progress(client.make(changes_for(client, found, anyway))):
         if refusal:
@@ -86,7 +92,7 @@ def delete_all(client, found, deleted, anyway):
     return sum(deleted.values()) == len(found)
 
 
-def tell_rest(client, found, deleted):
+def tell_rest(client: Client, found: dict[int, Feature], deleted: Counter[str]) -> None:
     """Says what is left, and what room the journal has, if the server tells it."""
     try:
         status = client.status()
@@ -96,9 +102,10 @@ def tell_rest(client, found, deleted):
     print(f"{len(found) - sum(deleted.values()):,} features are left{room}")
 
 
-def work(words):
+def work(words: argparse.Namespace) -> int:
     """Deletes the layers. Tells how far it came, however it ends."""
-    client, found, deleted = None, {}, Counter()
+    client, deleted = None, Counter[str]()
+    found: dict[int, Feature] = {}
     try:
         client = Client(words.url, True, 1 if words.no_batches else DELETES_OF_A_SECTOR)
         found = found_in(client, words.layers, words.numbers)
@@ -106,7 +113,7 @@ def work(words):
     except Fault as fault:
         print(f"stopped: {fault}")
         end = fault.status
-        if found and not isinstance(fault, NoAnswer):
+        if client and found and not isinstance(fault, NoAnswer):
             tell_rest(client, found, deleted)
     except KeyboardInterrupt:
         print("interrupted: run the same command again")

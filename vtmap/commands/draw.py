@@ -1,10 +1,13 @@
 """`vtmap draw`: a client that reads tiles by HTTP, decodes them by itself and draws them; or draws an earlier map. Needs Pillow."""
+from __future__ import annotations
+
+import argparse
 import json
 
 from ..client.client import Client, word
 from ..faults import Stopped
-from ..files.vector_tile import BROKEN, decoded
-from ..geometry.tiles import shown_in
+from ..files.vector_tile import BROKEN, TileFeature, decoded
+from ..geometry.tiles import Place, shown_in
 from ..geometry.world import shares
 from ..interpreters import need
 from .at import fault_of as fault_of_base
@@ -21,7 +24,7 @@ Each tile is 256 pixels wide. Layers are drawn in the order of those of examples
 --at TIME draws the map of an earlier time, without a server's tiles; TIME and the words from --log on are as those of `vtmap at`."""}
 
 
-def options(parser, _):
+def options(parser: argparse.ArgumentParser, _: str) -> None:
     """The words of the command."""
     parser.add_argument("file", help="the PNG file that is written")
     parser.add_argument("--zoom", type=int, choices=range(20), default=15, metavar="Z", help="the zoom of the tiles, 0 to 19 (15)")
@@ -32,14 +35,14 @@ def options(parser, _):
     options_of_base(parser)
 
 
-def fault_of(words):
+def fault_of(words: argparse.Namespace) -> str | None:
     """What is wrong with the command line."""
     if words.at is None:
         return "--log, --nginx, --save, --of and --disk are for --at" if words.log or words.nginx or words.save or words.disk else fault_of_base(words)
     return fault_of_base(words) if words.log else "--at needs --log"
 
 
-def centre(text):
+def centre(text: str) -> tuple[float, float]:
     """Longitude and latitude."""
     longitude, latitude = map(float, text.split(","))
     if not (-180 <= longitude <= 180 and -85.06 <= latitude <= 85.06):
@@ -47,7 +50,7 @@ def centre(text):
     return longitude, latitude
 
 
-def size(text):
+def size(text: str) -> tuple[int, int]:
     """Width and height in pixels."""
     width, height = map(int, text.split("x"))
     if not (0 < width <= 8192 and 0 < height <= 8192):
@@ -55,12 +58,12 @@ def size(text):
     return width, height
 
 
-def tiles_within(first, count, zoom):
+def tiles_within(first: int, count: int, zoom: int) -> range:
     """The columns or rows of tiles of the world that have some of these pixels."""
     return range(max(first // 256, 0), min((first + count - 1) // 256 + 1, 2 ** zoom))
 
 
-def tiles_of(client, zoom, columns, rows):
+def tiles_of(client: Client, zoom: int, columns: range, rows: range) -> dict[Place, bytes]:
     """The tiles that aren't empty, by column and row."""
     tiles = {}
     for column, row in ((column, row) for column in columns for row in rows):
@@ -73,7 +76,7 @@ def tiles_of(client, zoom, columns, rows):
     return tiles
 
 
-def drawn_now(words, columns, rows):
+def drawn_now(words: argparse.Namespace, columns: range, rows: range) -> dict[Place, dict[str, list[TileFeature]]]:
     """The tiles of the server, by column and row."""
     client = Client(words.url)
     try:
@@ -82,7 +85,7 @@ def drawn_now(words, columns, rows):
         raise Stopped(f"what answers at {client.address} sends no tiles: is --url right?") from fault
 
 
-def drawn_then(words, columns, rows):
+def drawn_then(words: argparse.Namespace, columns: range, rows: range) -> dict[Place, dict[str, list[TileFeature]]]:
     """The tiles of an earlier map, by column and row."""
     past = past_of(words, words.at)
     print(past)
@@ -90,7 +93,7 @@ def drawn_then(words, columns, rows):
     return shown_in(features, words.zoom, columns, rows)
 
 
-def work(words):
+def work(words: argparse.Namespace) -> int:
     """Draws, in an interpreter that has Pillow."""
     need("PIL", words.line)
     from .draw_picture import STYLES, Picture, style_of

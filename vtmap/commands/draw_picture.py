@@ -1,23 +1,39 @@
 """What `vtmap draw` draws: tiles as they are decoded, by styles of its own. Needs Pillow."""
+from __future__ import annotations
+
+from collections.abc import Iterable, Sequence
+from typing import Dict, Optional, Tuple, TypedDict
+
 from PIL import Image, ImageDraw, ImageFont
 
+from ..files.vector_tile import TileFeature
 from ..geometry.tiles import area
 from ..geometry.wholes import OUTLINE
 
 SHARPER = 4
 WATER = "#a9cfe3"
-# Layer: colour of the area, colour and width in pixels of lines, by the tag `kind` where there is one.
-STYLES = {
+
+
+class Style(TypedDict, total=False):
+    """How a layer is drawn: colours, and by the tag `kind`, if there is one, colour and width in pixels of lines."""
+
+    fill: str
+    edge: str
+    line: Dict[Optional[str], Tuple[str, float]]
+    point: str
+
+
+STYLES: dict[str, Style] = {
     "land": {"fill": "#f3efe2"},
     "park": {"fill": "#c3dfb0"},
     "road": {"line": {"main": ("#ffd98a", 7), "street": ("#ffffff", 5), "path": ("#b3a48c", 2)}},
     "building": {"fill": "#cdbfae", "edge": "#a89782"},
     "place": {"point": "#b03a2e"},
 }
-OTHER = {"fill": "#dddddd", "edge": "#888888", "line": {None: ("#555555", 2)}, "point": "#333333"}
+OTHER: Style = {"fill": "#dddddd", "edge": "#888888", "line": {None: ("#555555", 2)}, "point": "#333333"}
 
 
-def style_of(name):
+def style_of(name: str) -> Style:
     """The style of a layer. The lines of a layer `NAME-outline` are the edges of polygons of the layer NAME that the import cut."""
     if name.endswith(OUTLINE):
         style = STYLES.get(name.removesuffix(OUTLINE), OTHER)
@@ -28,18 +44,18 @@ def style_of(name):
 class Picture:
     """A picture of a part of the map."""
 
-    def __init__(self, zoom, left, top, size):
+    def __init__(self, zoom: int, left: int, top: int, size: tuple[int, int]) -> None:
         self.zoom, self.left, self.top = zoom, left, top
-        self.size = [side * SHARPER for side in size]
+        self.size = size[0] * SHARPER, size[1] * SHARPER
         self.image = Image.new("RGB", self.size, WATER)
-        self.labels = {}
+        self.labels: dict[tuple[int, int], tuple[str, str]] = {}
 
-    def places(self, column, row, points):
+    def places(self, column: int, row: int, points: Iterable[Sequence[float]]) -> list[tuple[float, float]]:
         """The pixels of points of a tile."""
         side = 256 * SHARPER
         return [((column + x / 4096) * side - self.left * SHARPER, (row + y / 4096) * side - self.top * SHARPER) for x, y in points]
 
-    def draw(self, style, column, row, features):
+    def draw(self, style: Style, column: int, row: int, features: Iterable[TileFeature]) -> None:
         """Draws the features of one layer of one tile."""
         board = ImageDraw.Draw(self.image)
         for _, kind, lists, tags in features:
@@ -59,7 +75,7 @@ class Picture:
                 for [(x, y)] in drawn:
                     self.labels[(round(x), round(y))] = (style["point"], tags.get("name", ""))
 
-    def polygons(self, style, lists, drawn, has_edge):
+    def polygons(self, style: Style, lists: list, drawn: list[list[tuple[float, float]]], has_edge: bool) -> None:
         """Draws polygons by a mask, so that what is below shows in their holes."""
         mask = Image.new("1", self.size)
         board = ImageDraw.Draw(mask)
@@ -70,12 +86,12 @@ class Picture:
             for pixels in drawn:
                 ImageDraw.Draw(self.image).line([*pixels, pixels[0]], fill=style["edge"], width=SHARPER // 2)
 
-    def finished(self):
+    def finished(self) -> Image.Image:
         """The picture in its own size, with points and their names."""
-        image = self.image.resize([side // SHARPER for side in self.size], Image.LANCZOS)
+        image = self.image.resize((self.size[0] // SHARPER, self.size[1] // SHARPER), Image.LANCZOS)
         board, font = ImageDraw.Draw(image), ImageFont.load_default()
-        for (x, y), (colour, name) in sorted(self.labels.items()):
-            x, y = x / SHARPER, y / SHARPER
+        for (left, top), (colour, name) in sorted(self.labels.items()):
+            x, y = left / SHARPER, top / SHARPER
             board.ellipse([x - 5, y - 5, x + 5, y + 5], fill=colour, outline="white")
             for dx, dy in [(-1, 0), (1, 0), (0, -1), (0, 1)]:
                 board.text((x + 8 + dx, y - 6 + dy), name, fill="white", font=font)

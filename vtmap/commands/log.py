@@ -1,14 +1,19 @@
 """`vtmap log`: who changed what, and when: by the log of `vtmap follow --log`, and nginx's. Needs no package."""
+from __future__ import annotations
+
 import argparse
 import json
 import sys
-from collections import Counter, namedtuple
+from collections import Counter
+from collections.abc import Iterable, Iterator, Mapping, Sequence
 from datetime import date, datetime
+from typing import NamedTuple
 
 from ..faults import Refused
 from ..files.edit_log import lines_in, lines_of, time_of
 from ..files.missed_edits import Missed
 from ..files.proxy_log import Senders
+from ..forms import Feature, ListedChange, LogRow, id_of
 from ..shown import shown, shown_json
 from ..systems import is_unicode
 from .differences import named, told_change
@@ -31,28 +36,30 @@ NOBODY = "-"
 NEW, CHANGED, DELETED, PUT = "new", "changed", "deleted", "put"
 KINDS = (NEW, CHANGED, DELETED, PUT)
 
-# An edit: its number, when it was made, by whom, its changes, and the line of the log.
-Edit = namedtuple("Edit", "number time person changes row")
+
+class Edit(NamedTuple):
+    """An edit: its number, when it was made, by whom, its changes, and the line of the log."""
+
+    number: int
+    time: datetime
+    person: str
+    changes: list[ListedChange]
+    row: LogRow
 
 
-def kind_of(change):
+def kind_of(change: ListedChange) -> str:
     """What a change does to its feature."""
     if "delete" in change:
         return DELETED
     return PUT if "was" not in change else NEW if change["was"] is None else CHANGED
 
 
-def id_of(change):
-    """The id of the feature of a change."""
-    return change.get("put", change.get("delete"))
-
-
-def feature_of(change):
+def feature_of(change: ListedChange) -> Feature | None:
     """A feature as a change leaves it, or as it was before it is deleted; None where that isn't known."""
     return change.get("feature") or change.get("was")
 
 
-def rows_of(paths, begins=False):
+def rows_of(paths: Iterable[str], begins: bool = False) -> Iterator[LogRow]:
     """The lines of a log, which may be several files; those too that say where it begins, if they are wanted."""
     for path in paths:
         for at, line in enumerate(lines_of(path), 1):
@@ -66,7 +73,7 @@ def rows_of(paths, begins=False):
                 yield row
 
 
-def senders_of(paths):
+def senders_of(paths: Iterable[str]) -> Senders:
     """Who sent which edit, by nginx's logs."""
     senders = Senders()
     for line in lines_in(paths):
@@ -75,7 +82,7 @@ def senders_of(paths):
     return senders
 
 
-def edits_of(paths, nginx, fills=True):
+def edits_of(paths: Sequence[str], nginx: Sequence[str], fills: bool = True) -> Iterator[Edit | LogRow]:
     """The edits of a log, each with the person and the time; if it `fills`, those too that it misses and nginx's has, and else where it begins. A row of
     others that are missing as it is."""
     senders = senders_of(nginx)
@@ -91,7 +98,7 @@ def edits_of(paths, nginx, fills=True):
         print(f"note: {senders.unread:,} lines of nginx's log are no edits, or were cut", flush=True)
 
 
-def wanted(words, edit):
+def wanted(words: argparse.Namespace, edit: Edit) -> Edit | None:
     """The edit with those of its changes that are asked for, or None."""
     if words.person is not None and edit.person != words.person or words.day is not None and edit.time.date() != words.day:
         return None
@@ -105,36 +112,36 @@ def wanted(words, edit):
     return edit._replace(changes=changes) if changes else None
 
 
-def layers_of(change):
+def layers_of(change: ListedChange) -> list[str]:
     """The layers of a feature before and after a change."""
     return [feature["layer"] for feature in (change.get("feature"), change.get("was")) if feature]
 
 
-def told(change):
+def told(change: ListedChange) -> str:
     """What a change did."""
     kind, feature = kind_of(change), feature_of(change)
     name = named(id_of(change), feature) if feature else f"{id_of(change)}"
     return f"{kind} {name}" + (f": {told_change(change['was'], change['feature'])}" if kind == CHANGED else "")
 
 
-def lines(edit):
+def lines(edit: Edit) -> list[str]:
     """The lines of an edit."""
     time, person = edit.time.strftime("%Y-%m-%d %H:%M:%S"), shown(edit.person)
     return [f"{time}  {edit.number}  {person}  {told(change)}" for change in edit.changes]
 
 
-def missing(row):
+def missing(row: LogRow) -> str:
     """The line of edits that the log doesn't have."""
     time = time_of(row).astimezone().strftime("%Y-%m-%d %H:%M:%S")
     return f"{time}  the edits {row['missed'][0]:,} to {row['missed'][1]:,} are missing: they were published before they were read"
 
 
-def json_line(row):
+def json_line(row: Mapping[str, object]) -> str:
     """A line of JSON, without letters that standard output hasn't got."""
     return shown_json(row, not is_unicode(sys.stdout))
 
 
-def names_of(words, edit, change):
+def names_of(words: argparse.Namespace, edit: Edit, change: ListedChange) -> str:
     """What a change is counted under."""
     return {
         "person": lambda: shown(edit.person),
@@ -147,24 +154,24 @@ def names_of(words, edit, change):
 class Counts:
     """How many edits and changes there were, by what is counted."""
 
-    def __init__(self, words):
+    def __init__(self, words: argparse.Namespace) -> None:
         self.words, self.edits, self.changes = words, Counter(), {}
 
-    def add(self, edit):
+    def add(self, edit: Edit) -> None:
         """Counts an edit."""
         names = [names_of(self.words, edit, change) for change in edit.changes]
         self.edits.update(set(names))
         for name, change in zip(names, edit.changes):
             self.changes.setdefault(name, Counter())[kind_of(change)] += 1
 
-    def lines(self):
+    def lines(self) -> Iterator[str]:
         """A line for each."""
         for name, kinds in sorted(self.changes.items()):
             parts = ", ".join(f"{kinds[kind]:,} {kind}" for kind in KINDS if kinds[kind])
             yield f"{name}: {self.edits[name]:,} edit{'s' if self.edits[name] > 1 else ''}: {parts}"
 
 
-def options(parser, _):
+def options(parser: argparse.ArgumentParser, _: str) -> None:
     """The words of the command."""
     parser.add_argument("log", nargs="+", metavar="FILE", help="what `vtmap follow --log` writes; the oldest first")
     parser.add_argument("--nginx", metavar="FILE", action="append", default=[], help="nginx's log of edits; may be given several times")
@@ -179,7 +186,7 @@ def options(parser, _):
     form.add_argument("--json", action="store_true", help="print the lines of the log with the person")
 
 
-def day(text):
+def day(text: str) -> date:
     """A day of this machine's time zone."""
     try:
         return date.today() if text == "today" else date.fromisoformat(text)
@@ -187,11 +194,11 @@ def day(text):
         raise argparse.ArgumentTypeError(f"{text!r} is no day such as 2026-11-29, or today") from fault
 
 
-def work(words):
+def work(words: argparse.Namespace) -> int:
     """Prints what is asked for."""
     numbers, counts, is_told = [], Counts(words), not (words.numbers or words.count)
     for edit in edits_of(words.log, words.nginx):
-        if isinstance(edit, dict):
+        if not isinstance(edit, Edit):
             if is_told:
                 print(json_line(edit) if words.json else missing(edit))
             continue

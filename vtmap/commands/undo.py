@@ -1,16 +1,22 @@
 """`vtmap undo`: takes edits back by the opposite checked edits. Needs no package."""
-import json
-from collections import Counter, namedtuple
+from __future__ import annotations
 
-from ..client.client import Client, conflict
-from ..client.edits import NOTHING, delete, encoded, put
+import argparse
+import json
+from collections import Counter
+from collections.abc import Iterable, Iterator, Sequence
+from typing import NamedTuple
+
+from ..client.client import Client, Made, Refusal, conflict
+from ..client.edits import NOTHING, Change, delete, encoded, put
 from ..faults import Refused
 from ..files.edit_log import last_of, lines_in
 from ..files.missed_edits import Missed
+from ..forms import Feature, ListedChange, id_of
 from ..progress import with_progress
 from .differences import named, told_change
 from .ids import ranges, told_ranges
-from .log import feature_of, id_of, rows_of
+from .log import feature_of, rows_of
 
 ABOUT = {"undo": """Takes edits back: an edit, several, or a whole import, which prints the numbers of its edits.
 
@@ -26,11 +32,15 @@ It ends with 1 if something is in conflict or refused. Interrupted, run it again
 MOST_NAMED = 20
 NOT_TOLD = ", and what nginx and the gateway were sent in that time isn't as many edits, or others"
 
-# What is to become of a feature: what the edits have made of it, what it was before them, and the name that it is told by.
-Step = namedtuple("Step", "now before")
+
+class Step(NamedTuple):
+    """What is to become of a feature: what the edits have made of it, and what it was before them."""
+
+    now: Feature | None
+    before: Feature | None
 
 
-def changes_of(paths, numbers, nginx=()):
+def changes_of(paths: Sequence[str], numbers: Iterable[range], nginx: Sequence[str] = ()) -> list[ListedChange]:
     """The changes of the edits of these numbers, the newest first. Refuses numbers that the log doesn't have. `nginx`: paths of logs that may have what
     it misses."""
     wanted, found, last = {number for part in numbers for number in part}, {}, 0
@@ -48,12 +58,12 @@ def changes_of(paths, numbers, nginx=()):
 class Undo:
     """What is taken back of each feature."""
 
-    def __init__(self, changes):
+    def __init__(self, changes: Iterable[ListedChange]) -> None:
         self.steps, self.stopped, self.unknown = {}, {}, set()
         for change in changes:
             self.add(id_of(change), change)
 
-    def add(self, number, change):
+    def add(self, number: int, change: ListedChange) -> None:
         """Takes one more change of a feature back, which is older than those so far. Between it and them nothing else may have been made of it."""
         if number in self.stopped or number in self.unknown:
             return
@@ -66,7 +76,7 @@ class Undo:
             return
         self.steps[number] = Step(made if step is None else step.now, change["was"])
 
-    def changes(self):
+    def changes(self) -> Iterator[Change]:
         """The checked changes, those of the newest edit first."""
         for number, (now, before) in self.steps.items():
             if encoded(now) != encoded(before):
@@ -77,24 +87,24 @@ class Undo:
 class Told:
     """What becomes of the changes, and how it is told."""
 
-    def __init__(self):
+    def __init__(self) -> None:
         self.counts, self.named = Counter(), 0
 
-    def name(self, text):
+    def name(self, text: str) -> None:
         """Prints what becomes of a feature; of many only the first ones."""
         self.named += 1
         if self.named <= MOST_NAMED:
             print(text, flush=True)
 
-    def end(self):
+    def end(self) -> str:
         """Says how many weren't named, and counts all."""
         if self.named > MOST_NAMED:
             print(f"and {self.named - MOST_NAMED:,} more")
         return ", ".join(f"{self.counts[kind]:,} {kind}" for kind in ("put back", "changed back", "deleted", "in conflict", "refused"))
 
-    def take(self, change, refusal):
+    def take(self, change: Change, refusal: Refusal | None) -> None:
         """Tells what became of a change."""
-        now = None if change.was == NOTHING else json.loads(change.was)
+        now = json.loads(change.was or NOTHING)
         before = None if change.body is None else json.loads(change.body)
         name = named(change.number, before or now)
         if refusal is None:
@@ -110,14 +120,14 @@ class Told:
             print(f"{name} refused: {refusal}", flush=True)
 
 
-def looked_at(client, changes):
+def looked_at(client: Client, changes: Iterable[Change]) -> Iterator[Made]:
     """The changes with the refusal that each would get."""
     for change in changes:
         now = client.feature(change.number)
         yield change, None if (b"null" if now is None else encoded(now)) == change.was else conflict(change, now)
 
 
-def work(words):
+def work(words: argparse.Namespace) -> int:
     """Takes edits back."""
     undo = Undo(changes_of(words.log, words.edits, words.nginx))
     client, told = Client(words.url, words.publish), Told()
@@ -138,7 +148,7 @@ def work(words):
     return 1 if told.counts["in conflict"] or told.counts["refused"] else 0
 
 
-def options(parser, _):
+def options(parser: argparse.ArgumentParser, _: str) -> None:
     """The words of the command."""
     parser.add_argument("edits", type=ranges, metavar="NUMBERS", help="the numbers of the edits, as in 12-40,57")
     parser.add_argument("--log", metavar="FILE", action="append", required=True, help="what `vtmap follow --log` writes; several times, the oldest first")
@@ -148,6 +158,6 @@ def options(parser, _):
     parser.add_argument("--publish", action="store_true", help="publish when the journal is full")
 
 
-def interrupted(_):
+def interrupted(_: argparse.Namespace) -> str:
     """What to do after an interruption."""
     return "run the same command again"
