@@ -1,17 +1,24 @@
 """What an import changes: the features of a plan beside those that the map has, and beside what the file said at its last import. """
-import json
-from collections import Counter, defaultdict, namedtuple
-from itertools import groupby
+from __future__ import annotations
 
+import argparse
+import json
+from collections import Counter, defaultdict
+from collections.abc import Iterator
+from itertools import groupby
+from typing import Dict, NamedTuple, Set
+
+from ..client.client import Client
 from ..client.edits import Change, batches, delete, encoded, sectors
-from ..files.base_file import hash_of
+from ..files.base_file import Base, hash_of
+from ..forms import Status
 from ..geometry.wholes import whole_in
 from ..limits import MOST_CHANGES, NUMBER_END
 from ..progress import counted
 from ..shown import shown
 from .deletions import are_many
 from .differences import named, told_difference
-from .plan import FEWER, MANY_PIECES
+from .plan import FEWER, MANY_PIECES, Plan
 from .sizes import Sizes
 
 # What becomes of a feature. OWN: it stays as the map has it, which somebody has changed there. CONFLICT: the file and the map were both changed.
@@ -19,11 +26,17 @@ NEW, CHANGED, SAME, GONE, OWN, CONFLICT = "new", "changed", "unchanged", "delete
 # How many conflicts are named, where it isn't known what the file said before.
 MOST_NAMED = 20
 
-# What the map has of an id: the layer, or that of the feature that it is a piece of, the id of that feature, and the feature as JSON.
-Found = namedtuple("Found", "layer whole body")
+
+class Found(NamedTuple):
+    """What the map has of an id: the layer, or that of the feature that it is a piece of, the id of that feature, and
+    the feature as JSON."""
+
+    layer: str
+    whole: int
+    body: bytes
 
 
-def counted_layers(counts):
+def counted_layers(counts: Counter[str]) -> str:
     """Counts of layers, as a text."""
     return ", ".join(f"{count:,} of {shown(layer)}" for layer, count in counts.most_common())
 
@@ -31,27 +44,35 @@ def counted_layers(counts):
 class Changes:
     """The changes of an import, and what became of them. `base`: what the file said before, or None."""
 
-    def __init__(self, plan, words, base):
+    def __init__(self, plan: Plan, words: argparse.Namespace, base: Base | None) -> None:
         self.plan, self.words, self.base = plan, words, base
+        # What the file said before: of no feature, if there is no base.
+        self.before = base or Base(None, "")
         self.layers = plan.layers | ({words.layer} if words.layer else set())
-        # What the map has of the ids and the layers of the plan, None if that isn't known, and the ids of each of its features.
-        self.there, self.pieces = None, defaultdict(dict)
+        # What the map has of the ids and the layers of the plan, whether that is known, and the ids of each of its
+        # features.
+        self.there: dict[int, Found] = {}
+        self.has_looked, self.pieces = False, defaultdict[int, Dict[int, bytes]](dict)
         # What is to be done with each id, the feature that it is a piece of, and what is to be done with each feature and its pieces.
-        self.kinds, self.wholes, self.states = {}, {}, defaultdict(set)
+        self.kinds: dict[int, str] = {}
+        self.wholes: dict[int, int] = {}
+        self.states = defaultdict[int, Set[str]](set)
         # Ids that other layers have, and those whose feature is another one, both by the layers in the map.
-        self.taken, self.differing = Counter(), Counter()
-        self.refused, self.conflicts, self.made = Counter(), Counter(), Counter()
+        self.taken, self.differing = Counter[str](), Counter[str]()
+        self.refused, self.conflicts, self.made = Counter[int](), Counter[int](), Counter[str]()
         # The layer and the hash of each feature that is put, as the base keeps them, and how many changes of it are left.
-        self.hashes, self.left = {}, Counter()
+        self.hashes: dict[int, tuple[str, str]] = {}
+        self.left = Counter[int]()
         # The texts that the file has as ids, by the ids.
         self.texts = plan.ids.names() if plan.ids else {}
         # The texts of conflicts, and how many of them are of features of which it isn't known what the file said before.
-        self.told_conflicts, self.unknown = [], 0
+        self.told_conflicts: list[str] = []
+        self.unknown = 0
 
-    def look(self, client, status):
+    def look(self, client: Client, status: Status) -> None:
         """Asks for what the map has, and compares it with the plan."""
         ids, first, end = self.plan.ids_to_put, 0, NUMBER_END
-        self.there = {}
+        self.has_looked = True
         if status["last"] is None:
             return self.compare()
         if not self.words.update:
@@ -62,7 +83,8 @@ class Changes:
             if whole == number:
                 first_pieces[number] = layer
             # What has such a tag without being a piece is a feature of its own.
-            whole = whole if whole in first_pieces else number
+            if whole is None or whole not in first_pieces:
+                whole = number
             layer = first_pieces.get(whole, layer)
             if number in ids or (self.words.update and layer in self.layers):
                 self.there[number] = Found(layer, whole, encoded(feature))
@@ -71,16 +93,16 @@ class Changes:
 
     # ---- comparing
 
-    def compare(self):
+    def compare(self) -> None:
         """Finds out what is to be done with each id."""
         for whole, group in groupby(self.plan.planned("features compared with the map"), lambda planned: planned.whole):
             self.compare_whole(whole, {planned.number: planned.body for planned in group})
         if self.words.delete_missing and not self.plan.unknown:
             self.compare_missing()
 
-    def compare_whole(self, whole, wanted):
+    def compare_whole(self, whole: int, wanted: dict[int, bytes]) -> None:
         """Finds out what is to be done with a feature of the file, whose pieces are to be these."""
-        there = self.there or {}
+        there = self.there
         now = {number: body for number, body in self.pieces.get(whole, {}).items() if number in wanted or not self.plan.has(number)}
         now.update({number: there[number].body for number in wanted if number in there})
         self.hashes[whole] = json.loads(wanted[min(wanted)])["layer"], hash_of(wanted)
@@ -93,19 +115,19 @@ class Changes:
             self.kinds[number], self.wholes[number] = kind, whole
             self.states[whole].add(kind)
 
-    def differs(self, found):
+    def differs(self, found: Found) -> str:
         """Counts an id of which the map has another feature."""
-        if found.layer not in self.layers and not (self.base and self.base.is_known(found.whole)):
+        if found.layer not in self.layers and not self.before.is_known(found.whole):
             self.taken[found.layer] += 1
         elif not self.words.update:
             self.differing[found.layer] += 1
         return CHANGED
 
-    def decided(self, whole, now, wanted):
+    def decided(self, whole: int, now: dict[int, bytes], wanted: dict[int, bytes]) -> str | None:
         """What becomes of a feature that isn't on the map as the file has it, if the file's version isn't sent. An id of another layer is no
         conflict: nothing is sent then."""
         layer, found = self.hashes.get(whole) or (self.there[min(now)].layer, None)
-        before, is_known = self.base.hash(whole), self.base.is_known(whole)
+        before, is_known = self.before.hash(whole), self.before.is_known(whole)
         is_foreign = not is_known and any(self.there[number].layer not in self.layers for number in now)
         if self.words.exactly or is_foreign or (not now and not is_known) or (is_known and now and hash_of(now) == before):
             return None
@@ -114,19 +136,19 @@ class Changes:
         if self.words.file_wins:
             return None
         if self.words.map_wins:
-            self.base.keep(layer, whole, found)
+            self.before.keep(layer, whole, found)
             return OWN
         self.tell_conflict(whole, now, wanted, is_known)
         return CONFLICT
 
-    def tell_conflict(self, whole, now, wanted, is_known):
+    def tell_conflict(self, whole: int, now: dict[int, bytes], wanted: dict[int, bytes], is_known: bool) -> None:
         """Keeps the text of a conflict."""
         self.unknown += not is_known
         if is_known or self.unknown <= MOST_NAMED:
             one, other = (json.loads(pieces[min(pieces)]) if pieces else None for pieces in (now, wanted))
             self.told_conflicts.append(f"{named(whole, other or one, self.texts.get(whole))}: {told_difference(one, other)}")
 
-    def compare_missing(self):
+    def compare_missing(self) -> None:
         """Finds out what is to be done with the features of the map that the file doesn't have."""
         planned, kept = set(self.states), self.plan.kept
         for whole, pieces in self.pieces.items():
@@ -137,21 +159,21 @@ class Changes:
             for number in now:
                 self.kinds[number], self.wholes[number] = kind, whole
                 self.states[whole].add(kind)
-        for whole in self.base.gone(self.missing_from()):
+        for whole in self.before.gone(self.missing_from()):
             if whole not in self.pieces and whole not in planned and whole not in kept:
-                self.base.keep(self.base.features[whole][0], whole, None)
+                self.before.keep(self.before.features[whole][0], whole, None)
 
-    def missing(self, whole, now, layer):
+    def missing(self, whole: int, now: dict[int, bytes], layer: str) -> str:
         """What becomes of a feature that the file doesn't have. One that it never had is the map's own."""
-        if not self.words.exactly and not self.base.is_known(whole) and layer in self.base.layers:
+        if not self.words.exactly and not self.before.is_known(whole) and layer in self.before.layers:
             return OWN
         return self.decided(whole, now, {}) or GONE
 
-    def missing_from(self):
+    def missing_from(self) -> set[str]:
         """The layers whose features are deleted if the file doesn't have them."""
         return {self.words.replace} if self.words.replace else self.layers
 
-    def obstacles(self):
+    def obstacles(self) -> Iterator[str]:
         """Why nothing may be sent."""
         yield from self.deletions()
         yield from self.cuts()
@@ -164,7 +186,7 @@ class Changes:
             differing = f"{sum(self.differing.values()):,} of the ids have other features: {counted_layers(self.differing)}"
             yield f"{differing}. `vtmap update` changes them; or give another --first"
 
-    def deletions(self):
+    def deletions(self) -> Iterator[str]:
         """Why so much isn't deleted: the file may be a part of what it was to be. Each layer is judged by itself."""
         gone = Counter(self.there[min(self.pieces[whole])].layer for whole, kinds in self.states.items() if kinds == {GONE})
         known = Counter(self.there[min(now)].layer for now in self.pieces.values())
@@ -176,7 +198,7 @@ class Changes:
             elif not self.words.delete_many and ((not most and are_many(count, known[layer])) or not self.plan.ids_to_put):
                 yield f"{would}: is the file whole? --delete-many deletes them"
 
-    def cuts(self):
+    def cuts(self) -> Iterator[str]:
         """Why features aren't cut: they would become very many, and most of what is sent."""
         new = [number for number, kind in self.kinds.items() if kind == NEW]
         pieces = Counter(self.wholes[number] for number in new)
@@ -184,18 +206,21 @@ class Changes:
         if count >= MANY_PIECES and count * 2 > len(new) and not self.words.cut_many:
             yield f"{wholes:,} feature{'s' if wholes > 1 else ''} would be {count:,} pieces, each with an id of its own: {FEWER}, --cut-many puts them"
 
-    def conflicts_told(self):
+    def conflicts_told(self) -> Iterator[str]:
         """The lines about what both the file and the map have changed."""
         yield from (f"conflict: {text}" for text in self.told_conflicts)
         if self.unknown > MOST_NAMED:
             yield f"and {self.unknown - MOST_NAMED:,} more conflicts"
         if self.unknown:
-            yield (f"note: what the file said of {self.unknown:,} of these at its last import isn't known: {self.base.path} hasn't got it of "
-                   f"{self.base.address}. --base names the file that was used then, --was-at the address of the map then")
+            yield (
+                f"note: what the file said of {self.unknown:,} of these at its last import isn't known: "
+                f"{self.before.path} hasn't got it of {self.before.address}. "
+                "--base names the file that was used then, --was-at the address of the map then"
+            )
         if self.told_conflicts:
             yield "note: of conflicts nothing is sent: --file-wins takes what the file has, --map-wins leaves what the map has, from now on too"
 
-    def would_send(self):
+    def would_send(self) -> Iterator[str]:
         """The lines about what would be sent, by the names of features."""
         first = {planned.whole: planned.body for planned in reversed(list(self.plan.planned()))} if self.states else {}
         for whole, kinds in self.states.items():
@@ -208,22 +233,23 @@ class Changes:
 
     # ---- sending
 
-    def to_send(self):
+    def to_send(self) -> Iterator[Change]:
         """The changes, in the order of the file; deletions are last."""
         for planned in self.plan.planned():
             kind = self.kinds[planned.number]
             if kind in (NEW, CHANGED):
                 change = Change(planned.number, planned.body, planned.text)
-                yield change if self.there is None else change._replace(was=self.there[planned.number].body if kind == CHANGED else encoded(None))
+                was = self.there[planned.number].body if kind == CHANGED else encoded(None)
+                yield change._replace(was=was) if self.has_looked else change
         for number, kind in self.kinds.items():
             if kind == GONE:
                 yield delete(number)._replace(was=self.there[number].body)
 
-    def count(self):
+    def count(self) -> int:
         """How many changes are sent."""
         return sum(kind in (NEW, CHANGED, GONE) for kind in self.kinds.values())
 
-    def sizes(self, most):
+    def sizes(self, most: int) -> tuple[Sizes, int]:
         """The sums of what is sent, and the sectors of the journal that it takes."""
         room = self.plan.room
         if room and room.is_new and set(self.kinds.values()) == {NEW}:
@@ -236,7 +262,7 @@ class Changes:
                 sums.add(planned.text, feature, shape, self.plan.zooms, planned.number == planned.whole)
         return sums, sum(map(sectors, batches(self.to_send(), most)))
 
-    def send(self, client):
+    def send(self, client: Client) -> Iterator[tuple[int, str]]:
         """Sends the changes. Yields each refusal with its id, and an empty text for each change that is made."""
         self.left = Counter(self.wholes[number] for number, kind in self.kinds.items() if kind in (NEW, CHANGED, GONE))
         for whole, states in self.states.items():
@@ -255,7 +281,7 @@ class Changes:
                 (self.conflicts if refusal.is_conflict else self.refused)[whole] += 1
                 yield change.number, str(refusal)
 
-    def keep(self, whole):
+    def keep(self, whole: int) -> None:
         """Keeps what the file says of a feature that is on the map like that."""
         if self.base and whole in self.hashes:
             layer, found = self.hashes[whole]
@@ -263,14 +289,14 @@ class Changes:
         elif self.base and self.base.is_known(whole):
             self.base.keep(self.base.features[whole][0], whole, None)
 
-    def save(self, edits):
+    def save(self, edits: int) -> None:
         """Adds what is kept to the file of the base, a part at a time."""
         if self.base and len(self.base.new) >= MOST_CHANGES:
             self.base.save(edits)
 
     # ---- telling
 
-    def counts(self):
+    def counts(self) -> Counter[str]:
         """How many features of the file, or of the map, are new, changed, deleted and unchanged: a cut one is one."""
         found = Counter()
         for whole, kinds in self.states.items():
@@ -278,21 +304,21 @@ class Changes:
                 found[next(iter(kinds)) if len(kinds) == 1 else CHANGED] += 1
         return found
 
-    def refused_count(self):
+    def refused_count(self) -> int:
         """How many features are refused."""
         return self.plan.refused + sum(self.refused.values())
 
-    def failed(self):
+    def failed(self) -> bool:
         """Whether something isn't as it was to be."""
         return self.refused_count() > 0 or sum(self.conflicts.values()) > 0 or len(self.told_conflicts) > 0
 
-    def so_far(self):
+    def so_far(self) -> str:
         """What was sent, as a text."""
         same = sum(kind == SAME for kind in self.kinds.values())
         line = f"{sum(self.made.values())} taken, {self.refused_count()} refused" + (f", {same} unchanged" if same else "")
         return line + (f", {sum(self.conflicts.values()):,} changed by others meanwhile" if self.conflicts else "")
 
-    def told(self):
+    def told(self) -> str:
         """What the command did, as a text: an update in features, of which a cut one is one."""
         if not self.words.update:
             return self.so_far()

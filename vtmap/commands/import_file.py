@@ -1,4 +1,7 @@
 """`vtmap import` and `vtmap update`: the features of a file are planned, compared with the map, and sent. Needs GDAL's Python module."""
+from __future__ import annotations
+
+import argparse
 import errno
 import json
 import os
@@ -10,6 +13,8 @@ from ..faults import Fault, NoAnswer, Stopped
 from ..files.base_file import Base
 from ..files.gdal_file import Reader
 from ..files.id_file import IdFile
+from ..files.map_schema import Schema
+from ..forms import Status
 from ..limits import MOST_CHANGES
 from ..progress import with_progress
 from ..shown import shown
@@ -24,7 +29,7 @@ from .watch import entries
 UNKNOWN = "the server tells nothing of itself (start it with --admin): which ids are free isn't known"
 
 
-def plan_of(words, client, status):
+def plan_of(words: argparse.Namespace, client: Client, status: Status | None) -> Plan:
     """The features to put, read from the file. Prints what a user should know of them."""
     ids = IdFile(words.ids) if words.ids else None
     first = words.first
@@ -45,7 +50,7 @@ def plan_of(words, client, status):
     return plan
 
 
-def take_zooms(words, schema):
+def take_zooms(words: argparse.Namespace, schema: Schema) -> None:
     """Takes the zooms of the layer that --layer names from the schema, if the command names none."""
     rules = schema.layers.get(words.layer)
     if rules and rules.zooms and not (words.says_minzoom or words.says_maxzoom):
@@ -54,7 +59,7 @@ def take_zooms(words, schema):
         print(f"note: they are shown at zooms {words.minzoom} to {words.maxzoom}, as the schema has it", flush=True)
 
 
-def base_of(words, client, status):
+def base_of(words: argparse.Namespace, client: Client, status: Status | None) -> Base | None:
     """What the file said at its last import into this map. None if ids don't stay, or the server doesn't tell what the map has."""
     if status is None or not has_ids(words):
         return None
@@ -73,12 +78,12 @@ def base_of(words, client, status):
     return base
 
 
-def base_path(words):
+def base_path(words: argparse.Namespace) -> str:
     """The file of what was imported before."""
     return words.base or (words.ids or without_end(words.file)) + ".base"
 
 
-def obstacles(words, client, status, changes):
+def obstacles(words: argparse.Namespace, client: Client, status: Status | None, changes: Changes) -> list[str]:
     """Looks at what the map has. Returns why nothing may be sent."""
     if status is None:
         print(f"note: {UNKNOWN}", flush=True)
@@ -92,7 +97,8 @@ def obstacles(words, client, status, changes):
     known = client.found(f"/map/metadata?edit={status['edits']}")["vector_layers"]
     layers = {layer["id"] for layer in known} & changes.layers
     if not words.anyway:
-        if words.ids and any(not changes.plan.ids.is_known(layer) for layer in layers):
+        ids = changes.plan.ids
+        if ids and any(not ids.is_known(layer) for layer in layers):
             found.append(f"{words.ids} has no ids of the layer, which the map has already: is it the file that was used before? (--anyway goes on)")
     if layers and words.first is None and words.id is None:
         names = " and ".join(map(shown, sorted(layers)))
@@ -100,7 +106,7 @@ def obstacles(words, client, status, changes):
     return found
 
 
-def tell_zooms(words, client):
+def tell_zooms(words: argparse.Namespace, client: Client) -> None:
     """Says that features end at a zoom beyond which other clients show the map: they ask for tiles up to the greatest zoom of nginx's TileJSON."""
     if words.says_maxzoom:
         return
@@ -113,7 +119,7 @@ def tell_zooms(words, client):
         print(f"note: they are shown up to zoom {MAXZOOM}: give --maxzoom {last} to show them as far in as /map.json says", flush=True)
 
 
-def has_room(words, client, status, changes):
+def has_room(words: argparse.Namespace, client: Client, status: Status | None, changes: Changes) -> bool:
     """Whether the server's disk has room for the changes, as far as a client knows. Prints what is needed."""
     sums, journal = changes.sizes(client.most)
     for line in sums.lines(journal, (entries(status, client) or 0) if status else 0):
@@ -128,20 +134,20 @@ def has_room(words, client, status, changes):
     return words.anyway or fault is None
 
 
-def send(client, changes):
+def send(client: Client, changes: Changes) -> None:
     """Sends the changes, and prints refusals and how far it is."""
     for number, refusal in with_progress(changes.send(client), changes.count()):
         if refusal:
             print(f"feature {number} refused: {refusal}", flush=True)
 
 
-def tell_edits(client):
+def tell_edits(client: Client) -> None:
     """Prints the numbers of the edits that were made."""
     if client.made:
         print(f"its edits: {told_ranges(client.made)} (`vtmap undo` takes them back)", flush=True)
 
 
-def tell_disk(client):
+def tell_disk(client: Client) -> None:
     """Prints what of the disk is used after the import, if the server tells it."""
     try:
         status = client.status()
@@ -153,7 +159,7 @@ def tell_disk(client):
               f"{area['used']:,} of {area['sectors']:,} of an area by what was published last")
 
 
-def tell_place(client, plan):
+def tell_place(client: Client, plan: Plan) -> None:
     """Prints where the data is."""
     if plan.box is None:
         return
@@ -162,7 +168,7 @@ def tell_place(client, plan):
     print("look at it: " + (client.address + place if status == 200 else f"{place} at the address of the nginx in front of the server"))
 
 
-def work(words, client):
+def work(words: argparse.Namespace, client: Client) -> int:
     """The import. Returns its exit status."""
     status = client.status()
     if status is not None and "last" not in status:
@@ -189,7 +195,7 @@ def work(words, client):
     return sent(words, client, plan, changes)
 
 
-def sent(words, client, plan, changes):
+def sent(words: argparse.Namespace, client: Client, plan: Plan, changes: Changes) -> int:
     """Sends the changes, and keeps the ids and what the file says. Returns the exit status."""
     if plan.ids:
         plan.ids.save()
@@ -225,13 +231,14 @@ def sent(words, client, plan, changes):
     return 1 if changes.failed() else 0
 
 
-def again(words, plan):
+def again(words: argparse.Namespace, plan: Plan) -> str:
     """How to go on."""
     return "run the same command again" + (f" with --first {plan.first}" if words.first is None and words.id is None else "")
 
 
-def imported(words):
+def imported(words: argparse.Namespace) -> int:
     """Runs the command, and says of each fault that nothing was sent."""
+    fault: object
     try:
         return work(words, Client(words.url, words.publish, 1 if words.no_batches else MOST_CHANGES))
     except Fault as found:

@@ -1,4 +1,7 @@
 """The words of `vtmap import` and `vtmap update`."""
+from __future__ import annotations
+
+import argparse
 import codecs
 
 from ..interpreters import need
@@ -72,7 +75,7 @@ Features have ids that stay: --id FIELD is an attribute with a number (`id` is t
 }
 
 
-def options(parser, name):
+def options(parser: argparse.ArgumentParser, name: str) -> None:
     """The words of a command."""
     parser.add_argument("file", help="a GeoJSON, Shapefile or GeoPackage file, or another one that GDAL reads")
     parser.add_argument("--layer", help="the name of their layer in the map (that of the file's layer)")
@@ -108,7 +111,7 @@ def options(parser, name):
         parser.set_defaults(delete_missing=False, replace=None, file_wins=False, map_wins=False, exactly=False, delete_many=False, delete_at_most=None, was_at=None)
 
 
-def options_of_update(parser):
+def options_of_update(parser: argparse.ArgumentParser) -> None:
     """The words of `vtmap update` alone."""
     parser.add_argument("--delete-missing", action="store_true", help="delete what the file had at its last import, and has no more")
     parser.add_argument("--replace", metavar="LAYER", help="--delete-missing for this layer")
@@ -122,12 +125,12 @@ def options_of_update(parser):
     parser.add_argument("--was-at", metavar="URL", help="the address that the map had at the last import")
 
 
-def has_ids(words):
+def has_ids(words: argparse.Namespace) -> bool:
     """Whether a feature of the file gets the same id at each import."""
     return words.id is not None or words.first is not None
 
 
-def fault_of(words):
+def fault_of(words: argparse.Namespace) -> str | None:
     """What is wrong with the command line. Completes it."""
     words.update = words.command == "update"
     words.says_minzoom, words.says_maxzoom = words.minzoom is not None, words.maxzoom is not None
@@ -161,7 +164,7 @@ def fault_of(words):
     return None
 
 
-def work(words):
+def work(words: argparse.Namespace) -> int:
     """Runs the command, in an interpreter that has GDAL's module."""
     need("osgeo", words.line)
     from .import_file import imported

@@ -1,9 +1,13 @@
 """`vtmap publish`: publishes the map by steps, and may put the archive into an object store. Needs no package."""
+from __future__ import annotations
+
+import argparse
 import json
 import os
 import signal
 import sys
 import time
+from typing import Any, NoReturn
 
 from ..archives.fetching import ARCHIVE
 from ..client.client import Client, word
@@ -40,7 +44,7 @@ times. The map of --url is the first one. With --changed and --record it is only
 PUBLISHED, STEP = "published", "/publish/step"
 
 
-def options(parser, _):
+def options(parser: argparse.ArgumentParser, _: str) -> None:
     """The words of the command."""
     parser.add_argument("--changed", action="store_true", help="publish only if the archive lacks an edit")
     parser.add_argument("--cancel", action="store_true", help="drop a publication that was left under way")
@@ -53,7 +57,7 @@ def options(parser, _):
     parser.add_argument("--first", action="store_true", help="of an id that several of them have, take the first one's feature (`vtmap join`)")
 
 
-def fault_of(words):
+def fault_of(words: argparse.Namespace) -> str | None:
     """Why the words can't be meant."""
     if words.join and not words.to:
         return "--join needs --to"
@@ -67,26 +71,26 @@ class Ended(Exception):
 class Publication:
     """A publication by steps. `is_interrupted` is set by a signal: a request that was sent is awaited, since its reply tells what became of it."""
 
-    def __init__(self, words, client):
+    def __init__(self, words: argparse.Namespace, client: Client) -> None:
         self.words, self.client, self.is_interrupted = words, client, False
 
-    def post(self, path):
+    def post(self, path: str) -> tuple[int, Any]:
         """Status and word, or content, of a request for a publication."""
         status, content = self.client.step() if path == STEP else self.client.post(path)
         return status, content if status == 200 else word(content)
 
-    def cancel(self):
+    def cancel(self) -> None:
         """Cancels the publication that is under way."""
         status, said = self.post("/publish/cancel")
         print("the publication is cancelled" if status == 204 else f"/publish/cancel: {status} {said}", file=sys.stderr)
 
-    def refused(self, path, status, said):
+    def refused(self, path: str, status: int, said: str) -> NoReturn:
         """Ends at a refusal."""
         reason = WORDS.get(said.split(" ")[0]) or STATUSES.get(status)
         text = said if str(status) in said else f"{said} {status}"
         raise Ended(1, f"refused: {text}", f"{path}: {text}" + (f" ({told(reason)})" if reason else ""))
 
-    def finish(self, left):
+    def finish(self, left: int) -> bool:
         """Does the steps that are left. Returns whether it did the last one itself: somebody else may, and then the server is idle."""
         while left > 0:
             if self.is_interrupted:
@@ -102,7 +106,7 @@ class Publication:
             print(f"{left} left", flush=True)
         return True
 
-    def wait(self):
+    def wait(self) -> None:
         """Waits for who follows the edits, unless it is interrupted."""
         length, standbys, logs = said()
         length = length if self.words.pause is None else self.words.pause
@@ -114,12 +118,12 @@ class Publication:
         for one in wait.wait(status["edits"] if status else 0, lambda: self.is_interrupted):
             print(told_late(one), file=sys.stderr, flush=True)
 
-    def post_begin(self):
+    def post_begin(self) -> tuple[int, Any]:
         """The same for a beginning, which is answered once all tiles are made: meanwhile it prints how many are."""
         with Tiles(self.client):
             return self.post("/publish/begin")
 
-    def begin(self):
+    def begin(self) -> int:
         """Begins a publication; one that is under way is cancelled or finished before. Returns the sectors that are left."""
         status, found = self.post_begin()
         if status == 409 and found == "Busy":
@@ -134,7 +138,7 @@ class Publication:
             self.refused("/publish/begin", status, found)
         return self.client.value(found)["left"]
 
-    def run(self):
+    def run(self) -> None:
         """Publishes."""
         left = self.begin()
         print(f"begun: {left} left", flush=True)
@@ -145,19 +149,19 @@ class Publication:
                         "the publication is gone, and nothing is published: somebody cancelled it, or the server was restarted")
         print("published", flush=True)
 
-    def mark(self):
+    def mark(self) -> int | str | None:
         """What each publication changes: its number, or else the archive's entity tag."""
         status = self.client.status()
         return status["generation"] if status else self.client.tag("/map.pmtiles")
 
 
-def has_each_edit(client):
+def has_each_edit(client: Client) -> bool:
     """Whether the published archive has each edit, and no publication is under way. A server without --admin doesn't tell."""
     status = client.status()
     return status is not None and status["generation"] > 0 and status["left"] is None and status["edits"] == status["published"]
 
 
-def recorded(words):
+def recorded(words: argparse.Namespace) -> dict[str, Any]:
     """What the last publication recorded, if it went well; else nothing."""
     try:
         with open(words.record or os.devnull, encoding="utf-8") as file:
@@ -167,7 +171,7 @@ def recorded(words):
         return {}
 
 
-def put_joined(words):
+def put_joined(words: argparse.Namespace) -> dict[str, str | None]:
     """Puts the archive of all maps into its place, unless it is there with the last version of each. Returns what they are, for the record."""
     names = [words.url + ARCHIVE, *words.join]
     try:
@@ -181,7 +185,7 @@ def put_joined(words):
         raise Ended(getattr(fault, "status", 1), f"not joined: {fault}", f"the map is published, but not joined: {fault}") from fault
 
 
-def published(words):
+def published(words: argparse.Namespace) -> dict[str, object]:
     """Publishes if it is wanted, and puts the archive into its place. Returns what is recorded beside the outcome. Raises `Ended`."""
     client = Client(words.url)
     is_in_place = not words.to or words.join or recorded(words)
@@ -194,11 +198,11 @@ def published(words):
     return {"joined": put_joined(words)} if words.join else {}
 
 
-def publish(words, client):
+def publish(words: argparse.Namespace, client: Client) -> None:
     """Publishes, and may be interrupted. Raises `Ended`."""
     publication = Publication(words, client)
 
-    def interrupt(*_):
+    def interrupt(*_: object) -> None:
         # Whoever asks twice doesn't wait for a reply.
         if publication.is_interrupted:
             raise KeyboardInterrupt
@@ -213,7 +217,7 @@ def publish(words, client):
             signal.signal(number, handler)
 
 
-def work(words):
+def work(words: argparse.Namespace) -> int:
     """Publishes, and records the outcome."""
     if words.record:
         regular(words.record)

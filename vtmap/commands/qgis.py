@@ -1,4 +1,7 @@
 """`vtmap qgis`: writes a QGIS project with the tiles of a running vtserve. Needs no package."""
+from __future__ import annotations
+
+import argparse
 import os
 import time
 import urllib.parse
@@ -9,6 +12,7 @@ from ..client.schema import schema_at
 from ..ending import regular, replaced
 from ..faults import NoAnswer, Refused, Stopped
 from ..files.protobuf import varint
+from ..geometry.shapes import Box
 from ..geometry.world import EARTH, HALF, mercator
 from .qgis_forms import in_project
 from .qgis_styles import background, page_style, styled
@@ -70,14 +74,14 @@ SYSTEM = (
 )
 
 
-def layers_of(client):
+def layers_of(client: Client) -> dict[str, int]:
     """The names of the map's layers, and the greatest zoom that each has. The time keeps nginx from sending an older copy (`?edit=` in
     docs/nginx.conf)."""
     metadata = client.found(f"/map/metadata?edit={int(time.time())}") or {"vector_layers": []}
     return {layer["id"]: layer["maxzoom"] for layer in metadata["vector_layers"]}
 
 
-def looked_at(client, words):
+def looked_at(client: Client, words: argparse.Namespace) -> tuple[dict[str, int], Box]:
     """The layers with their greatest zooms, and the box of the map, as far as the command line doesn't say them."""
     try:
         layers = layers_of(client)
@@ -88,7 +92,7 @@ def looked_at(client, words):
     return layers, box_at(words.centre, words.metres) if words.centre else published(client)
 
 
-def tile_of(number):
+def tile_of(number: int) -> tuple[int, int, int]:
     """Zoom, column and row of a tile of an archive: PMTiles numbers the tiles of each zoom along a Hilbert curve, zoom after zoom."""
     zoom = 0
     while number >= 4 ** zoom:
@@ -103,7 +107,7 @@ def tile_of(number):
     return zoom, column, row
 
 
-def published(client):
+def published(client: Client) -> Box:
     """West, south, east and north, in Web Mercator, of the tiles of the greatest zoom in the archive's root directory; the world if there is none."""
     status, content = client.ask("GET", "/map.pmtiles", fields={"Range": "bytes=0-16383"})
     if status not in (200, 206):
@@ -121,7 +125,7 @@ def published(client):
     return min(columns) * side - HALF, HALF - (max(rows) + 1) * side, (max(columns) + 1) * side - HALF, HALF - min(rows) * side
 
 
-def place(text):
+def place(text: str) -> tuple[float, float]:
     """A longitude and latitude."""
     longitude, latitude = map(float, text.split(","))
     if not (-180 <= longitude <= 180 and -85.06 <= latitude <= 85.06):
@@ -129,13 +133,13 @@ def place(text):
     return longitude, latitude
 
 
-def box_at(centre, metres):
+def box_at(centre: tuple[float, float], metres: float) -> Box:
     """West, south, east and north, in Web Mercator, of a square round a longitude and latitude."""
     east, north = mercator(*centre)
     return east - metres / 2, north - metres / 2, east + metres / 2, north + metres / 2
 
 
-def options(parser, _):
+def options(parser: argparse.ArgumentParser, _: str) -> None:
     """The words of the command."""
     parser.add_argument("file", help="the .qgs file that is written")
     parser.add_argument("--force", action="store_true", help="replace the file if it is there")
@@ -148,7 +152,7 @@ def options(parser, _):
     parser.add_argument("--metres", type=float, default=5000, help="--centre: how wide and high the map opens, in metres of Web Mercator (5000)")
 
 
-def work(words):
+def work(words: argparse.Namespace) -> int:
     """Writes the project."""
     if os.path.exists(regular(words.file)) and not words.force:
         raise Refused(f"{words.file} exists: give --force to write it anew")

@@ -1,4 +1,7 @@
 """`vtmap schema`: which layers and fields a map is to have. Needs no package."""
+from __future__ import annotations
+
+import argparse
 import os
 
 from ..client.client import Client
@@ -27,7 +30,7 @@ MOST_TOLD = 20
 ACTIONS = ("show", "add", "make", "check")
 
 
-def options(parser, _):
+def options(parser: argparse.ArgumentParser, _: str) -> None:
     """The words of the command."""
     parser.add_argument("action", nargs="?", choices=ACTIONS, default="show", help="what to do (show)")
     parser.add_argument("names", nargs="*", metavar="NAME", help="add: the layer and its new fields; make: the file")
@@ -43,7 +46,7 @@ def options(parser, _):
     parser.add_argument("--file", help="the file of the schema, in place of the server's")
 
 
-def fault_of(words):
+def fault_of(words: argparse.Namespace) -> str | None:
     """What is wrong with the command line."""
     if words.action == "add":
         if not words.names:
@@ -59,12 +62,12 @@ def fault_of(words):
     return None
 
 
-def work(words):
+def work(words: argparse.Namespace) -> int:
     """Runs the command."""
     return {"show": show, "add": add, "make": make, "check": check}[words.action](words)
 
 
-def show(words):
+def show(words: argparse.Namespace) -> int:
     """Prints the schema."""
     schema = schema_at(Client(words.url), words.file)
     if not schema.layers:
@@ -77,13 +80,13 @@ def show(words):
     return 0
 
 
-def told(field):
+def told(field: Field) -> str:
     """A field, as people read it."""
     choices = f": {', '.join(shown(value) for value in field.choices)}" if field.choices else ""
     return f"{field.type}{', required' if field.required else ''}{f' ({shown(field.label)})' if field.label else ''}{choices}"
 
 
-def add(words):
+def add(words: argparse.Namespace) -> int:
     """Adds fields, or a layer."""
     layer, *tags = words.names
     zooms = None if words.minzoom is None else (words.minzoom, words.maxzoom)
@@ -94,14 +97,14 @@ def add(words):
     return 0
 
 
-def field_of(words):
+def field_of(words: argparse.Namespace) -> Field:
     """The field that the words say."""
     kind = words.type or "text"
     choices = words.choices and [Field(kind, None, None, False).fitted(value) for value in words.choices]
     return Field(kind, words.label, choices, words.required)
 
 
-def added_to_file(words, more, layer):
+def added_to_file(words: argparse.Namespace, more: Schema, layer: str) -> Schema:
     """Adds to a file, and to a layer that it doesn't name what the map has of that one."""
     file = SchemaFile(words.file)
     if layer in file.read().layers:
@@ -110,7 +113,7 @@ def added_to_file(words, more, layer):
     return file.add(there.added(more))
 
 
-def make(words):
+def make(words: argparse.Namespace) -> int:
     """Writes, or prints, the schema that the map has."""
     text = schema_of(whole.feature for whole in wholes_of(Client(words.url).features())).text()
     if not words.names:
@@ -125,7 +128,7 @@ def make(words):
     return 0
 
 
-def check(words):
+def check(words: argparse.Namespace) -> int:
     """Names the features that aren't as the schema says."""
     client = Client(words.url)
     schema, count = schema_at(client, words.file), 0

@@ -1,9 +1,13 @@
 """What an import will need of the server's areas: the snapshot exactly, the archive about."""
+from __future__ import annotations
+
 import math
+from collections.abc import Iterable, Iterator
 
 from ..client.edits import value_bytes
 from ..client.refusals import APART
-from ..geometry.shapes import MOST_WORK, bounds, chains, count, covered, reach
+from ..forms import Feature, Status
+from ..geometry.shapes import MOST_WORK, Shape, bounds, chains, count, covered, reach
 from ..limits import MOST_ENTRIES, PART, SECTOR
 
 # What a tile takes beside its features: the frame of a layer, and its entry in the directory.
@@ -13,12 +17,12 @@ FEWER_TILES = f"end features at a smaller --maxzoom, or {APART}"
 MOST_TILES = 1000000
 
 
-def area_of(sectors):
+def area_of(sectors: int) -> int:
     """The sectors of an area of a disk of this size."""
     return (sectors - 3 - sectors // 4) // 2
 
 
-def disk_for(area):
+def disk_for(area: int) -> int:
     """A size for `format` whose areas have so many sectors."""
     sectors = 4096
     while area_of(sectors) < area:
@@ -26,7 +30,7 @@ def disk_for(area):
     return sectors
 
 
-def counted(number, name):
+def counted(number: int, name: str) -> str:
     """A count and what is counted."""
     return f"{number:,} {name}{'' if number == 1 else 's'}"
 
@@ -34,11 +38,11 @@ def counted(number, name):
 class Sizes:
     """The sums of the features so far."""
 
-    def __init__(self):
+    def __init__(self) -> None:
         self.features = self.points = self.snapshot = self.archive = 0
         self.tiles = set()
 
-    def add(self, length, body, shape, zooms, is_first):
+    def add(self, length: int, body: Feature, shape: Shape, zooms: Iterable[int], is_first: bool) -> None:
         """Adds a feature whose text has so many bytes. Of the pieces of one feature the values of tags are in a tile once: they are counted for the first."""
         self.features += 1
         self.points += count(shape)
@@ -51,11 +55,11 @@ class Sizes:
             if len(self.tiles) < MOST_TILES:
                 self.tiles.update((zoom, column, row) for column in range(left, right + 1) for row in range(top, bottom + 1))
 
-    def area(self):
+    def area(self) -> int:
         """The sectors of snapshot and archive."""
         return -(-self.snapshot // SECTOR) + -(-(self.archive + TILE_BYTES * len(self.tiles)) // SECTOR)
 
-    def lines(self, journal, entries=0):
+    def lines(self, journal: int, entries: int = 0) -> Iterator[str]:
         """What a user reads of them, of the sectors of the journal that they need, and of the entries that the published archive has."""
         many = "over 1,000,000" if len(self.tiles) >= MOST_TILES else f"up to {len(self.tiles):,}"
         yield f"to send: {counted(self.features, 'feature')}, {counted(self.points, 'point')}"
@@ -70,13 +74,13 @@ class Room:
     features of the file are new on the map, whose tiles are counted then. Else only what is known without looking at the map: the features
     themselves have to fit into an area."""
 
-    def __init__(self, status, publishes, is_new):
+    def __init__(self, status: Status, publishes: bool, is_new: bool) -> None:
         journal, area = status["journal"], status["area"]
         self.area, self.used, self.places = area["sectors"], area["used"], journal["places"]
         self.free = None if publishes else self.places - journal["used"]
         self.is_new, self.sums = is_new, Sizes()
 
-    def add(self, length, feature, zooms, is_first):
+    def add(self, length: int, feature: Feature, zooms: Iterable[int], is_first: bool) -> None:
         """Adds a feature that is read."""
         if self.is_new:
             (shape,) = feature["geometry"].items()
@@ -84,7 +88,7 @@ class Room:
         else:
             self.sums.snapshot += length
 
-    def lacks(self, area, journal, share=1.0):
+    def lacks(self, area: int, journal: int, share: float = 1.0) -> str | None:
         """What it hasn't room for, None if there is room: so many sectors of an area, and of the journal. `share`: of all that there will be."""
         need = area + self.used
         if need > self.area:
@@ -94,7 +98,7 @@ class Room:
             return f"the journal has {self.free:,} of its {self.places:,} sectors free: give --publish"
         return None
 
-    def lacks_already(self, read, total):
+    def lacks_already(self, read: int, total: int | None) -> str | None:
         """What it hasn't room for after so many features, of as many as there are, if that is known."""
         if self.is_new:
             fault = self.lacks(self.sums.area(), self.sums.snapshot // PART, read / total if total else 1)
@@ -105,7 +109,7 @@ class Room:
         return f"after {read:,}{of} features, with {self.area:,} sectors of an area: {fault}" if fault else None
 
 
-def segments_of(shape):
+def segments_of(shape: Shape) -> list[tuple[float, float, float]]:
     """Width, height and length of each segment of its lines or rings, in units of the world."""
     if shape[0] == "points":
         return []
@@ -113,7 +117,7 @@ def segments_of(shape):
     return [(abs(a[0] - b[0]), abs(a[1] - b[1]), math.dist(a, b)) for a, b in pairs]
 
 
-def tile_bytes(shape, segments, zoom, tiles, tags):
+def tile_bytes(shape: Shape, segments: list[tuple[float, float, float]], zoom: int, tiles: int, tags: int) -> int:
     """About how many bytes a shape has in the tiles of a zoom."""
     points, unit, front = count(shape), 1 << (20 - zoom), 12 + tags
     if shape[0] == "points":
@@ -130,6 +134,6 @@ def tile_bytes(shape, segments, zoom, tiles, tags):
     return round(min(tiles, more + 1) * (front + 3) + (kept + more) * each)
 
 
-def is_heavy(shape, zooms):
+def is_heavy(shape: Shape, zooms: Iterable[int]) -> bool:
     """Whether a feature alone makes publications slow: its points are in many tiles."""
     return count(shape) * reach(bounds(shape), zooms) > MOST_WORK
