@@ -91,6 +91,7 @@ PARTS = [
     client("tags"),
     client("foreign"),
     client("wfs-hostile"),
+    client("wfs-maps"),
     client("wfs-tables"),
     client("schema"),
     client("outsiders"),

@@ -81,6 +81,7 @@ from clients.updates import updates  # noqa: E402
 from clients.wfs import wfs  # noqa: E402
 from clients.wfs_deaths import wfs_deaths  # noqa: E402
 from clients.wfs_hostile import wfs_hostile  # noqa: E402
+from clients.wfs_maps import wfs_maps  # noqa: E402
 from clients.wfs_qgis import wfs_qgis  # noqa: E402
 from clients.wfs_random import wfs_random  # noqa: E402
 from clients.wfs_tables import wfs_tables  # noqa: E402
@@ -122,6 +123,7 @@ def main():
         "wfs": wfs,
         "wfs-deaths": wfs_deaths,
         "wfs-hostile": wfs_hostile,
+        "wfs-maps": wfs_maps,
         "foreign": foreign,
         "wfs-random": wfs_random,
         "wfs-tables": wfs_tables,

@@ -22,6 +22,8 @@ TIMED = ("publish", "watch", "backup")
 STARTED = "enable --now vtserve@{0}.service" + "".join(f" vtserve-{name}@{{0}}.timer" for name in TIMED)
 ONCE = "start --no-block vtserve-publish@north.service vtserve-backup@north.service"
 WATCHED = "--quiet is-enabled vtserve-watch-maps.timer"
+# Before nginx's files are written: whether all maps have one gateway; and after that, whether nginx runs.
+TOLD = ["--quiet is-enabled vtserve-wfs-maps.service", "--quiet is-active vtserve-nginx.service"]
 STOPPED = "disable --now" + "".join(f" vtserve-{name}@{{0}}.timer" for name in TIMED) + "".join(
     f" vtserve{name}@{{0}}.service" for name in ("-wfs", "-wmts", "-log", "-standby", ""))
 
@@ -160,7 +162,7 @@ def commands(cases, here):
         "north: http://north.example.org:8000/" + once,
     ]
     cases.show("maps: vtmap maps add", (status, lines), (0, said))
-    wanted = ["daemon-reload", WATCHED, STARTED.format("north"), ONCE, "--quiet is-active vtserve-nginx.service"]
+    wanted = ["daemon-reload", WATCHED, STARTED.format("north"), ONCE, *TOLD]
     cases.show("maps: what it runs", here.calls(), wanted)
     modes = [
         here.mode(*path)
@@ -201,22 +203,28 @@ def commands(cases, here):
     cases.show(
         "maps: what that runs",
         here.calls(),
-        [
-            "--quiet is-active vtserve-nginx.service",
-            STOPPED.format("north"),
-            "daemon-reload",
-            "--quiet is-active vtserve-nginx.service",
-            STOPPED.format("south"),
-        ],
+        [*TOLD, STOPPED.format("north"), "daemon-reload", *TOLD, STOPPED.format("south")],
     )
     left = sorted(os.listdir(here.path("etc/vtserve/maps"))) + os.listdir(here.path("etc/systemd/system"))
-    with open(os.path.join(here.kept, "enabled"), "w", encoding="ascii"):
+    for unit, said in (
+        ("vtserve-watch-maps.timer", "one timer watches all, a map has none"),
+        ("vtserve-wfs-maps.service", "one gateway answers for all, a map has none"),
+    ):
+        with open(os.path.join(here.kept, "enabled"), "w", encoding="ascii") as file:
+            file.write(unit)
         here.calls()
-        here.maps("add", "north")
+        here.maps("add", "north", "--wfs")
+        wanted = STARTED.format("north")
+        wanted = f"{wanted} vtserve-wfs@north.service" if "watch" in unit else wanted
+        wanted = wanted.replace(" vtserve-watch@north.timer", "") if "watch" in unit else wanted
+        cases.show(f"maps: where {said} of its own", wanted in here.calls(), True)
+        with open(here.path("etc/vtserve/nginx-maps/gateways.conf"), encoding="utf-8") as file:
+            cases.show(f"maps: where {said}: nginx", '"~." gateways;' in file.read(), "wfs" in unit)
+        here.maps("remove", "north")
     os.unlink(os.path.join(here.kept, "enabled"))
-    wanted = STARTED.format("north").replace(" vtserve-watch@north.timer", "")
-    cases.show("maps: where one timer watches all, a map has none of its own", wanted in here.calls(), True)
-    here.maps("remove", "north")
+    cases.show("maps: nginx's files anew", (here.maps("nginx")[0], here.maps("nginx", "north")[0]), (0, 2))
+    with open(here.path("etc/vtserve/nginx-maps/gateways.conf"), encoding="utf-8") as file:
+        cases.show("maps: and no gateway of all", "gateways;" in file.read(), False)
     cases.show("maps: what is left", (left, sorted(os.listdir(here.path("var/lib/vtserve")))), ([], ["north", "south"]))
 
 

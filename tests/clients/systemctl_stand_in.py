@@ -109,6 +109,15 @@ def show(unit):
     return 0
 
 
+def enabled():
+    """The units of all maps that are enabled, as the file of that name says."""
+    path = os.path.join(KEPT, "enabled")
+    if not os.path.exists(path):
+        return []
+    with open(path, encoding="ascii") as file:
+        return file.read().split()
+
+
 def main(words):
     with open(os.path.join(KEPT, "calls"), "a", encoding="utf-8") as file:
         file.write(" ".join(words) + "\n")
@@ -118,7 +127,7 @@ def main(words):
     if "is-active" in words:
         return 0 if os.environ.get("NGINX") else 3
     if "is-enabled" in words:
-        return 0 if os.path.exists(os.path.join(KEPT, "enabled")) else 1
+        return 0 if words[-1] in enabled() else 1
     if words[0] == "reload":
         return subprocess.run([*json.loads(os.environ["NGINX"]), "-s", "reload"], stderr=subprocess.DEVNULL).returncode
     if words[0] == "cat":

@@ -26,6 +26,7 @@ EXPOSURE = {
     "vtserve-log.service": 1.5,
     "vtserve-standby.service": 1.5,
     "vtserve-wfs.service": 1.5,
+    "vtserve-wfs-maps.service": 1.5,
     "vtserve-wmts.service": 1.5,
     "vtserve-at.service": 1.5,
     "vtserve-replicas.service": 1.5,

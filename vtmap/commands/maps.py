@@ -15,6 +15,7 @@ ABOUT = {"maps": """Lists, adds and removes the maps of a machine that serves se
     vtmap maps add north --host north.example.org
     vtmap maps bounds north --bounds 7.2,54.3,7.9,54.8
     vtmap maps remove north
+    vtmap maps nginx
 
 A map has a name, a disk file of its own, /var/lib/vtserve/NAME/map.disk, and the file /etc/vtserve/maps/NAME, which has
 its ports. Its processes are vtserve@NAME and its companions of systemd. Behind nginx (docs/nginx.conf) it is at /NAME/,
@@ -22,7 +23,8 @@ and at / of each --host.
 
 add makes the disk file, unless it is there from a time before, and starts the server and the timers that publish, watch
 and save the map; with --wfs also its gateway for QGIS, and with --wmts its pictures. bounds changes the box that the map's TileJSON
-(/NAME/map.json) tells clients, who ask for no tile outside of it: give one that features never leave. remove stops them, and keeps the disk file and the backups. No
+(/NAME/map.json) tells clients, who ask for no tile outside of it: give one that features never leave. remove stops them, and keeps the disk file and the backups. nginx
+writes what nginx includes anew: after vtserve-wfs-maps.service, one gateway for all maps, was enabled or disabled. No
 other map is touched: nginx reads its configuration again, and no request fails."""}
 FRONT = "http://localhost:8000"
 # The sectors of a disk file that are the usual ones, and the fewest and the most.
@@ -40,7 +42,7 @@ def bounds(text: str) -> tuple[float, ...]:
 
 def options(parser: argparse.ArgumentParser, _: str) -> None:
     """The words of the command."""
-    parser.add_argument("action", nargs="?", choices=["add", "bounds", "remove"], help="what to do (list the maps)")
+    parser.add_argument("action", nargs="?", choices=["add", "bounds", "remove", "nginx"], help="what to do (list the maps)")
     parser.add_argument("name", nargs="?", metavar="NAME", help="the name of a map")
     parser.add_argument("--host", action="append", default=[], help="a host name of the map; several times")
     parser.add_argument("--sectors", type=int, default=SECTORS, help=f"sectors of its disk file ({SECTORS})")
@@ -55,8 +57,8 @@ def options(parser: argparse.ArgumentParser, _: str) -> None:
 
 def fault_of(words: argparse.Namespace) -> str | None:
     """Why the words can't be meant."""
-    if (words.action is None) != (words.name is None):
-        return f"{words.action} needs the name of a map"
+    if (words.action in (None, "nginx")) != (words.name is None):
+        return f"{words.action} {'takes no name' if words.name else 'needs the name of a map'}"
     if not LEAST <= words.sectors <= MOST:
         return f"--sectors is from {LEAST} to {MOST:,}"
     if words.memory and not MEMORY.fullmatch(words.memory):
@@ -139,13 +141,20 @@ def remove(machine: Machine, words: argparse.Namespace) -> None:
     print(f"{words.name} is removed. Its disk is kept: {machine.disk(words.name)}")
 
 
+def write_nginx(machine: Machine, words: argparse.Namespace) -> None:
+    """Writes what nginx includes anew."""
+    machine.check_nginx()
+    is_there = machine.tell_nginx(machine.maps())
+    print("nginx has the maps as they are" + ("" if is_there else " once it runs (vtserve-nginx.service)"))
+
+
 def work(words: argparse.Namespace) -> int:
     """Lists, adds or removes."""
     machine = Machine(words.root)
     if words.action is None:
         return show(machine.maps(), words.front)
     try:
-        {"add": add, "bounds": set_bounds, "remove": remove}[words.action](machine, words)
+        {"add": add, "bounds": set_bounds, "remove": remove, "nginx": write_nginx}[words.action](machine, words)
     except PermissionError as fault:
         raise Refused(f"{fault.filename}: run it as root") from None
     return 0

@@ -1,25 +1,21 @@
 """`vtmap wfs`: a gateway by which QGIS edits the live map, and others read it. Needs GDAL's Python module for shapes that are cut alone."""
+from __future__ import annotations
+
 import argparse
+import re
 import signal
 import sys
-import time
+import threading
+from typing import Any
 
 from .. import alive
-from ..client.feed import Leader
-from ..faults import NoAnswer, Stopped
-from ..files.attachments import Attachments
 from ..files.checkout_file import KINDS
-from ..files.map_schema import SchemaFile
-from ..files.save_log import SaveLog
-from ..gateway.history import History
 from ..gateway.listener import listener
-from ..gateway.live_map import LiveMap
-from ..gateway.ogc_api import OgcApi
-from ..gateway.saves import Saves
-from ..gateway.sessions import FORGOTTEN, Sessions
+from ..gateway.maps import Maps
+from ..gateway.one_map import OneMap, OnlyMap
 from ..gateway.projections import Systems
-from ..gateway.wfs import Wfs
 from ..interpreters import look_for
+from ..machine.machine import Machine
 
 ABOUT = {"wfs": """Lets a desktop GIS edit the map itself, by WFS, and other programs read it, by OGC API Features.
 
@@ -42,12 +38,22 @@ which tags name as files/HASH.jpg; `vtmap files` lists those that no feature nam
 --history FILE names what `vtmap follow --log` writes: by it /wfs/history/ID tells the page what has become of a feature, with the names of who edited
 it by the logs of --nginx and --log.
 
+--maps answers for each map of a machine with several (`vtmap maps`), at /NAME/wfs, /NAME/ogc/ and /NAME/files/, or for the map that nginx names in the
+field X-Map (--behind-nginx). {map}, {port} and {gateway} in the other words are the name and the ports of each. A map is opened by the first request for
+it, and gives up its memory after --idle seconds without one. Maps may be added and removed meanwhile.
+
+    vtmap wfs --maps --url http://127.0.0.1:{port} --state /var/lib/vtserve-wfs/{map}/state
+
 The server needs --admin. Large shapes are cut, for which GDAL's Python module is needed. It ends with 0 at SIGTERM, once a save that is under way
 is made. If systemd waits for it (WatchdogSec), it asks itself again and again whether it answers, and says so."""}
 FORMS = {"text": "TEXT", "integer": "INTEGER", "boolean": "BOOLEAN"}
 
 
-def options(parser, _):
+# After how many seconds without a request a map gives up its memory, where there are several.
+IDLE = 3600
+
+
+def options(parser: argparse.ArgumentParser, _: str) -> None:
     """The words of the command."""
     parser.add_argument("--port", type=int, default=8090, help="the port of 127.0.0.1 (8090)")
     parser.add_argument("--state", metavar="FILE", help="keep in this file what is being saved, and what each GIS has saved")
@@ -65,9 +71,13 @@ def options(parser, _):
                         "the usual ones; may be repeated")
     parser.add_argument("--cors", action="store_true", help="let pages of all origins read what is below /ogc: for a map that everybody may read")
     parser.add_argument("--publish", action="store_true", help="publish when the journal is full")
+    parser.add_argument("--maps", action="store_true", help="answer for each map of this machine; {map} and {port} in the other words are its own")
+    parser.add_argument("--idle", type=float, default=IDLE, metavar="SECONDS", help=f"--maps: after how long without a request a map gives up its "
+                        f"memory ({IDLE})")
+    parser.add_argument("--root", metavar="FOLDER", default="/", help="--maps: the folder of /etc, for a try")
 
 
-def code_of(text):
+def code_of(text: str) -> int:
     """The number of a coordinate system."""
     name, _, number = text.partition(":")
     if name.upper() != "EPSG" or not number.isdecimal() or not 1024 <= int(number) <= 32767:
@@ -75,7 +85,7 @@ def code_of(text):
     return int(number)
 
 
-def layer_of(text):
+def layer_of(text: str) -> tuple[tuple[str, str], dict[str, str]]:
     """The layer and the kind that a word names, and the types of tags by their names."""
     layer, kind, *rest = text.split(":", 2)
     kinds = {said: kind for kind, said in KINDS.items()}
@@ -85,38 +95,32 @@ def layer_of(text):
     return (layer, kinds[kind]), {tag: FORMS[form] for tag, form in tags.items()}
 
 
-def fault_of(words):
+def fault_of(words: argparse.Namespace) -> str | None:
     """What is wrong with the command line."""
+    if words.maps and words.layer:
+        return "--layer is of one map, and --maps of all: name its layers in a schema"
+    if words.maps and not {"{port}", "{map}"} & set(re.findall("{[a-z]+}", words.url)):
+        return "--maps needs an --url with the port or the name of each map, as http://127.0.0.1:{port}"
+    if not words.idle > 0:
+        return "--idle is a number of seconds"
     return None if 0 < words.port < 65536 else "--port is a number from 1 to 65535"
 
 
-def work(words):
+def work(words: argparse.Namespace) -> int:
     """Answers until it is stopped, in an interpreter that has GDAL's module if there is one."""
     look_for("osgeo", words.line)
-    log, sessions = SaveLog(words.state), Sessions()
-    log.shorten(time.time() - FORGOTTEN)
-    for row in log.done:
-        sessions.restore(row)
-    live = LiveMap(Leader(words.url, words.publish), dict(words.layer), log, SchemaFile(words.schema))
-    wfs = Wfs(live, sessions, Saves(live, log, words.log))
-    api = OgcApi(live, wfs.look, Systems(words.crs))
-    files = Attachments(words.files) if words.files else None
-    history = History(words.history, [*words.nginx, *([words.log] if words.log else [])])
-    server = listener(words.port, wfs, api, files=files, history=history, is_behind_nginx=words.behind_nginx, is_public=words.cors)
-    begin(wfs)
+    known = {"is_behind_nginx": words.behind_nginx, "is_public": words.cors}
+    found: Any = Maps(Machine(words.root), words, words.idle) if words.maps else OnlyMap(OneMap(words, Systems(words.crs)))
+    server = listener(words.port, found, **known)
+    found.begin()
+    if words.maps:
+        threading.Thread(target=found.keep_looking, daemon=True).start()
     signal.signal(signal.SIGTERM, lambda *_: sys.exit(0))
-    alive.tell(words.port)
-    print(f"http://127.0.0.1:{words.port}/wfs", flush=True)
+    # A map that isn't asked for isn't opened for that: with several, whether the process answers is asked by a path of none.
+    alive.tell(words.port, *(["/"] if words.maps else []))
+    print(f"http://127.0.0.1:{words.port}/{'NAME/' if words.maps else ''}wfs", flush=True)
     try:
         server.serve_forever()
     finally:
         server.saving.wait()
     return 0
-
-
-def begin(wfs):
-    """Lists the map, and undoes what was cut short. Without a server that is done by the first request."""
-    try:
-        wfs.look()
-    except (NoAnswer, Stopped) as fault:
-        print(f"{fault}: waiting", flush=True)

@@ -91,6 +91,12 @@ class SaveLog:
             replaced(self.path, "".join(json.dumps(row) + "\n" for row in rows))
             self.file = open(self.path, "ab", buffering=0)
 
+    def close(self) -> None:
+        """Lets another process have the file."""
+        if self.path:
+            self.file.close()
+            self.lock.close()
+
     def begin(self, groups: Groups) -> int:
         """Notes what is to be sent. Returns the id of the save."""
         number, self.next = self.next, self.next + 1

@@ -87,5 +87,5 @@ def keep(handler: Any, files: Attachments, given: str | None, content: bytes) ->
     except OSError as fault:
         handler.reply(500, f"the file can't be kept: {fault.strerror}".encode(), TEXT)
         return
-    print(f"file: {shown(handler.person())}: {PATH}{name}, {len(content):,} bytes", flush=True)
+    handler.map.live.tell(f"file: {shown(handler.person())}: {PATH}{name}, {len(content):,} bytes")
     handler.reply(201, json.dumps({"path": PATH + name}).encode(), JSON, [("Location", handler.address(FILES) + name)])

@@ -1,4 +1,6 @@
 """HTTP for the gateway: paths, addresses, origins, sizes, times, and a reply for each fault. Needs no package."""
+from __future__ import annotations
+
 import gzip
 import hashlib
 import http
@@ -10,7 +12,9 @@ import threading
 import time
 import traceback
 import urllib.parse
+from collections.abc import Callable, Iterable
 from http.server import BaseHTTPRequestHandler, ThreadingHTTPServer
+from typing import Any
 
 from ..faults import Fault, NoAnswer, Refused, Stopped
 from ..files import map_schema
@@ -41,27 +45,38 @@ MOST_BODY, MOST_BODIES, LEAST_GZIP = 32 * 2 ** 20, 256 * 2 ** 20, 2000
 # Seconds after which a connection without a request is closed, and one that stops in the middle of a request or takes nothing of its reply; the bytes
 # of a second that a body or a reply takes at least beside these; and the seconds for which what a refused client sends yet is read.
 IDLE, PAUSE, SLOWEST, LINGER = 300, 30, 64 * 2 ** 10, 2
+# A field of a reply, and those of one.
+Field = tuple[str, Any]
+Fields = list[Field]
 
 
 class Handler(BaseHTTPRequestHandler):
-    """One connection. `wfs`, `ogc` and `history` answer, `files` are kept. `is_behind_nginx`: whether nginx says who sends a request. `is_public`: whether
-    pages of other origins may read."""
+    """One connection. `maps` has the maps, `map` is the one that a request is for, and `prefix` what its path has before that of the map.
+    `is_behind_nginx`: whether nginx says who sends a request. `is_public`: whether pages of other origins may read."""
 
     protocol_version = "HTTP/1.1"
     disable_nagle_algorithm = True
     timeout = IDLE
-    wfs = ogc = history = files = None
+    server: Listener
+    maps: Any = None
+    map: Any = None
+    prefix = ""
     is_behind_nginx = is_public = False
 
-    def log_message(self, *words):
+    def log_message(self, *words: Any) -> None:
         """Prints nothing: what was saved is printed elsewhere."""
 
-    def handle_one_request(self):
+    def handle_one_request(self) -> None:
         """Waits for a request, and answers it."""
         self.connection.settimeout(IDLE)
-        super().handle_one_request()
+        try:
+            super().handle_one_request()
+        finally:
+            if self.map is not None:
+                self.maps.leave(self.map)
+                self.map = None
 
-    def parse_request(self):
+    def parse_request(self) -> bool:
         """Reads the head of a request. Returns whether it is to be answered."""
         self.connection.settimeout(PAUSE)
         if not super().parse_request():
@@ -71,32 +86,46 @@ class Handler(BaseHTTPRequestHandler):
         elif self.is_foreign():
             self.refuse(403, "a page of another origin asks for a change")
         else:
-            return True
+            return self.maps is None or self.find_map()
         return False
 
-    def is_foreign(self):
+    def find_map(self) -> bool:
+        """Finds the map that a request is for, and takes its name off the path. Returns whether there is one."""
+        named = self.headers.get("x-map") if self.is_behind_nginx else None
+        try:
+            self.map, self.prefix = self.maps.entered(self.path, named)
+        except Refused as fault:
+            self.refuse(503, str(fault))
+            return False
+        if self.map is None:
+            self.refuse(404, "NotFound")
+            return False
+        self.path = self.path.removeprefix(self.prefix)
+        return True
+
+    def is_foreign(self) -> bool:
         """Whether a page of another origin asks for a change. A browser names the origin of the page with such a request, other programs name none.
         The scheme isn't compared: a proxy may take https and pass on http. No page can send X-Forwarded-Host without the browser asking first."""
         here = self.headers.get("x-forwarded-host", self.headers.get("host")).lower()
         origins = [] if self.command in READS else self.headers.get_all("origin", [])
         return any(origin.lower() not in ("", f"http://{here}", f"https://{here}") for origin in origins)
 
-    def handle_expect_100(self):
+    def handle_expect_100(self) -> bool:
         """Says nothing yet: a body is asked for once it is known that it is taken."""
         return True
 
-    def do_GET(self):
+    def do_GET(self) -> None:
         """Answers WFS and OGC API Features."""
         path, _, query = self.path.partition("?")
         given = dict(urllib.parse.parse_qsl(query, keep_blank_values=True))
         if path in SCHEMAS:
             self.answer_schema()
             return
-        if HISTORY.fullmatch(path):
-            self.answer_history(int(HISTORY.fullmatch(path)[1]))
+        if number := HISTORY.fullmatch(path):
+            self.answer_history(int(number[1]))
             return
         if path.startswith(FILES):
-            file_paths.answer(self, self.files, path, SAFETY)
+            file_paths.answer(self, self.map.files, path, SAFETY)
             return
         if path == OGC or path.startswith(OGC + "/"):
             self.answer_ogc(path.removeprefix(OGC), given)
@@ -107,15 +136,15 @@ class Handler(BaseHTTPRequestHandler):
             return
         given = {name.lower(): value for name, value in given.items()}
         self.answer_wfs(wfs_texts.chosen(given.get("version", wfs_texts.V2.name)), "InvalidParameterValue",
-                        lambda: self.wfs.answer(session, given, self.address(WFS)))
+                        lambda: self.map.wfs.answer(session, given, self.address(WFS)))
 
     do_HEAD = do_GET
 
-    def do_POST(self):
+    def do_POST(self) -> None:
         """Makes a Transaction, or adds to the schema."""
         path, _, query = self.path.partition("?")
         if path == FILES:
-            file_paths.take(self, self.files, path)
+            file_paths.take(self, self.map.files, path)
             return
         session, length, is_meant = session_in(path), self.length(), ("delete-many", "true") in urllib.parse.parse_qsl(query)
         most, kinds = (map_schema.MOST_BYTES, KINDS_OF_JSON) if path == SCHEMA else (MOST_BODY, KINDS_OF_XML)
@@ -135,11 +164,11 @@ class Handler(BaseHTTPRequestHandler):
             self.refuse(503, "others are sending very much just now")
         else:
             try:
-                self.post(lambda body: self.add_to_schema(body) if path == SCHEMA else self.transact(session, body, is_meant), length)
+                self.post(lambda body: self.add_to_schema(body) if session is None else self.transact(session, body, is_meant), length)
             finally:
                 self.server.bodies.take(-length)
 
-    def post(self, work, length):
+    def post(self, work: Callable[[bytes], None], length: int) -> None:
         """Does what is asked by a body, once that is there. The process doesn't end before its reply is sent."""
         body = self.body(length)
         if body is None:
@@ -151,16 +180,16 @@ class Handler(BaseHTTPRequestHandler):
         except Ending:
             self.refuse(503, "the gateway ends")
 
-    def transact(self, session, body, is_meant):
+    def transact(self, session: str, body: bytes, is_meant: bool) -> None:
         """Makes a Transaction, or answers a request by XML that reads."""
-        body = body if self.files is None else file_paths.by_paths(body, self.files)
-        self.answer_wfs(wfs_texts.V1, "OperationProcessingFailed", lambda: self.wfs.posted(session, body, self.address(WFS), self.person(), is_meant))
+        body = body if self.map.files is None else file_paths.by_paths(body, self.map.files)
+        self.answer_wfs(wfs_texts.V1, "OperationProcessingFailed", lambda: self.map.wfs.posted(session, body, self.address(WFS), self.person(), is_meant))
 
-    def answer_history(self, number):
+    def answer_history(self, number: int) -> None:
         """Sends what has become of a feature."""
         status, kind = 200, JSON
         try:
-            found = self.history.of(number)
+            found = self.map.history.of(number)
             if found is None:
                 status, kind, text = 404, TEXT, "no log of edits is kept here"
             else:
@@ -171,9 +200,9 @@ class Handler(BaseHTTPRequestHandler):
 
     # ---- the schema
 
-    def answer_schema(self):
+    def answer_schema(self) -> None:
         """Sends the schema as it is now."""
-        live = self.wfs.live
+        live = self.map.live
         with live.lock:
             schema = live.see_schema()
         status, text, kind = (200, schema.text(), JSON) if schema.layers else (404, "the map has no schema", TEXT)
@@ -183,17 +212,17 @@ class Handler(BaseHTTPRequestHandler):
             return
         self.reply(status, text.encode(), kind, [("ETag", tag)] if status == 200 else [])
 
-    def add_to_schema(self, body):
+    def add_to_schema(self, body: bytes) -> None:
         """Adds what a body has to the schema."""
-        status, kind, live = 200, JSON, self.wfs.live
+        status, kind, live = 200, JSON, self.map.live
         try:
             if live.schema.path is None:
                 raise Unknown("the gateway has no file of a schema: start it with --schema FILE")
             more = map_schema.parsed(body.decode())
             with live.lock:
-                self.wfs.look()
+                self.map.wfs.look()
                 text = live.add_to_schema(more).text()
-            print(f"schema: {shown(self.person())}: {', '.join(map(shown, more.layers))}", flush=True)
+            live.tell(f"schema: {shown(self.person())}: {', '.join(map(shown, more.layers))}")
         except (NoAnswer, Stopped) as fault:
             status, kind, text = 502, TEXT, str(fault)
         except OSError as fault:
@@ -204,13 +233,13 @@ class Handler(BaseHTTPRequestHandler):
 
     # ---- what a client says
 
-    def length(self):
+    def length(self) -> int | None:
         """The length of the body, None if it isn't said once."""
         said = self.headers.get_all("content-length", [])
         is_said = len(said) == 1 and re.fullmatch("[0-9]{1,12}", said[0].strip()) and "transfer-encoding" not in self.headers
         return int(said[0]) if is_said else None
 
-    def body(self, length):
+    def body(self, length: int) -> bytes | None:
         """The body of a request, None if it doesn't come in time."""
         if self.headers.get("expect", "").lower() == "100-continue":
             self.connection.sendall(b"HTTP/1.1 100 Continue\r\n\r\n")
@@ -218,7 +247,7 @@ class Handler(BaseHTTPRequestHandler):
         try:
             while len(parts) < length:
                 self.connection.settimeout(max(min(end - time.monotonic(), PAUSE), 0.001))
-                part = self.rfile.read1(min(length - len(parts), 2 ** 16))
+                part = self.rfile.read1(min(length - len(parts), 2 ** 16))  # type: ignore[attr-defined]
                 if not part:
                     return None
                 parts += part
@@ -226,20 +255,20 @@ class Handler(BaseHTTPRequestHandler):
             return None
         return bytes(parts)
 
-    def address(self, path):
+    def address(self, path: str) -> str:
         """The address by which the client reaches a path: through a proxy, that which the proxy says."""
         host = self.headers.get("x-forwarded-host", self.headers.get("host", HERE))
-        return f"{self.headers.get('x-forwarded-proto', 'http')}://{host}{self.headers.get('x-forwarded-prefix', '')}{path}"
+        return f"{self.headers.get('x-forwarded-proto', 'http')}://{host}{self.headers.get('x-forwarded-prefix', '')}{self.prefix}{path}"
 
-    def person(self):
+    def person(self) -> str:
         """Who sends a request: what nginx says of it, a name or an address; without nginx anybody can say anything."""
-        said = self.is_behind_nginx and (self.headers.get("x-forwarded-user") or self.headers.get("x-real-ip"))
+        said = (self.headers.get("x-forwarded-user") or self.headers.get("x-real-ip")) if self.is_behind_nginx else None
         # Fields are read as ISO 8859-1, and nginx sends a name in UTF-8.
         return said.encode("iso-8859-1", "replace").decode(errors="replace") if said else self.client_address[0]
 
     # ---- replies
 
-    def answer_wfs(self, version, code, work):
+    def answer_wfs(self, version: wfs_texts.Version, code: str, work: Callable[[], str]) -> None:
         """Answers by WFS. A refusal has status 200 too: of another one QGIS shows no text."""
         try:
             text = work()
@@ -251,14 +280,14 @@ class Handler(BaseHTTPRequestHandler):
             text = wfs_texts.report(version, code, "the request is nested too deep")
         except Exception as fault:
             text = wfs_texts.report(version, "NoApplicableCode", broken(fault))
-        text = text if self.files is None else file_paths.by_addresses(text, self.address("/"))
+        text = text if self.map.files is None else file_paths.by_addresses(text, self.address("/"))
         self.reply(200, text.encode(), XML)
 
-    def answer_ogc(self, path, given):
+    def answer_ogc(self, path: str, given: dict[str, str]) -> None:
         """Answers by OGC API Features."""
         status, kind, fields = 200, JSON, []
         try:
-            kind, data, fields = self.ogc.answer(path, given, self.address(OGC))
+            kind, data, fields = self.map.ogc.answer(path, given, self.address(OGC))
         except Unknown as unknown:
             status, data = 404, refused("NotFound", unknown)
         except (NoAnswer, Stopped) as stopped:
@@ -269,11 +298,11 @@ class Handler(BaseHTTPRequestHandler):
             status, data = 500, refused("NoApplicableCode", broken(fault))
         self.reply(status, data, kind, [*fields, *self.readable()])
 
-    def readable(self):
+    def readable(self) -> Fields:
         """What lets pages of other origins read a reply, if they may."""
         return [("Access-Control-Allow-Origin", "*"), ("Access-Control-Expose-Headers", "Content-Crs, Content-Disposition")] if self.is_public else []
 
-    def do_OPTIONS(self):
+    def do_OPTIONS(self) -> None:
         """Says what may be asked of a path."""
         path = self.path.partition("?")[0]
         if is_read_only(path):
@@ -284,7 +313,7 @@ class Handler(BaseHTTPRequestHandler):
         else:
             self.reply(404, b"NotFound", TEXT)
 
-    def not_allowed(self):
+    def not_allowed(self) -> None:
         """Refuses a method that changes something where nothing is changed so."""
         path = self.path.partition("?")[0]
         if path.startswith(FILES):
@@ -296,15 +325,15 @@ class Handler(BaseHTTPRequestHandler):
 
     do_DELETE = do_PATCH = not_allowed
 
-    def do_PUT(self):
+    def do_PUT(self) -> None:
         """Keeps a file under a name of its sender."""
         path = self.path.partition("?")[0]
         if path.startswith(file_paths.OF_GIVEN):
-            file_paths.take(self, self.files, path)
+            file_paths.take(self, self.map.files, path)
         else:
             self.not_allowed()
 
-    def reply(self, status, data, kind, more=()):
+    def reply(self, status: int, data: bytes, kind: str | None, more: Iterable[Field] = ()) -> None:
         """Sends a reply. `more`: further fields of it."""
         is_zipped = len(data) >= LEAST_GZIP and "gzip" in self.headers.get("accept-encoding", "")
         data = gzip.compress(data, 1) if is_zipped else data
@@ -314,12 +343,12 @@ class Handler(BaseHTTPRequestHandler):
         fields += [("Content-Encoding", "gzip")] if is_zipped else []
         self.write(status, data, fields)
 
-    def head_of(self, status, fields):
+    def head_of(self, status: int, fields: Fields) -> bytes:
         """The head of a reply with these fields."""
         fields = [*fields, ("Connection", "close")] if self.close_connection else fields
         return "\r\n".join([f"HTTP/1.1 {status} {http.HTTPStatus(status).phrase}", *(f"{name}: {value}" for name, value in fields), "", ""]).encode()
 
-    def write(self, status, data, fields):
+    def write(self, status: int, data: bytes, fields: Fields) -> None:
         """Writes a reply with these fields."""
         try:
             # The time of all of it.
@@ -329,7 +358,7 @@ class Handler(BaseHTTPRequestHandler):
             # A GIS no longer waits once somebody has moved the map on.
             self.close_connection = True
 
-    def write_file(self, status, file, length, fields):
+    def write_file(self, status: int, file: Any, length: int, fields: Fields) -> None:
         """Writes a reply whose content is that of an open file."""
         try:
             self.connection.settimeout(PAUSE + length / SLOWEST)
@@ -339,7 +368,7 @@ class Handler(BaseHTTPRequestHandler):
         except OSError:
             self.close_connection = True
 
-    def refuse(self, status, text, more=()):
+    def refuse(self, status: int, text: str, more: Iterable[Field] = ()) -> None:
         """Refuses a request whose body, if it has one, isn't read, and ends the connection."""
         self.close_connection = True
         self.reply(status, text.encode(), TEXT, more)
@@ -354,7 +383,7 @@ class Handler(BaseHTTPRequestHandler):
         except OSError:
             pass
 
-    def send_error(self, code, message=None, explain=None):
+    def send_error(self, code: int, message: str | None = None, explain: str | None = None) -> None:
         """Refuses what is no request."""
         self.refuse(int(code), message or http.HTTPStatus(code).phrase)
 
@@ -366,10 +395,10 @@ class Ending(Exception):
 class Bodies:
     """How many bytes of bodies there are, which are being read or saved."""
 
-    def __init__(self):
+    def __init__(self) -> None:
         self.bytes, self.lock = 0, threading.Lock()
 
-    def take(self, length):
+    def take(self, length: int) -> bool:
         """Takes room for a body, or gives it back. Returns whether there was room."""
         with self.lock:
             has_room = self.bytes + length <= MOST_BODIES
@@ -380,16 +409,16 @@ class Bodies:
 class Saving:
     """How many saves are under way."""
 
-    def __init__(self):
+    def __init__(self) -> None:
         self.count, self.changed, self.is_over = 0, threading.Condition(), False
 
-    def __enter__(self):
+    def __enter__(self) -> None:
         self.add(1)
 
-    def __exit__(self, *fault):
+    def __exit__(self, *fault: Any) -> None:
         self.add(-1)
 
-    def add(self, number):
+    def add(self, number: int) -> None:
         """One more, or one less."""
         with self.changed:
             if number > 0 and self.is_over:
@@ -397,7 +426,7 @@ class Saving:
             self.count += number
             self.changed.notify_all()
 
-    def wait(self):
+    def wait(self) -> None:
         """Waits until there is none, and takes no further one."""
         with self.changed:
             self.is_over = True
@@ -412,41 +441,41 @@ class Listener(ThreadingHTTPServer):
     # On Windows a second process would get the port that this one has.
     allow_reuse_address = not is_windows()
 
-    def __init__(self, *words):
+    def __init__(self, *words: Any) -> None:
         super().__init__(*words)
         self.saving, self.bodies = Saving(), Bodies()
 
-    def handle_error(self, request, client_address):
+    def handle_error(self, request: Any, client_address: Any) -> None:
         """Says nothing of a client that has gone, and all of another fault."""
         if not isinstance(sys.exc_info()[1], OSError):
             super().handle_error(request, client_address)
 
 
-def session_in(path):
+def session_in(path: str) -> str | None:
     """The name of the session that a path of WFS has, empty if it has none; None if it is another path."""
     found = re.fullmatch(f"{WFS}(?:/([0-9a-f]{{10}}))?/?", path)
-    return found and (found[1] or "")
+    return (found[1] or "") if found else None
 
 
-def is_read_only(path):
+def is_read_only(path: str) -> bool:
     """Whether a path is only read."""
     return path == OGC or path.startswith(OGC + "/")
 
 
-def refused(code, text):
+def refused(code: str, text: object) -> bytes:
     """A refusal of OGC API Features."""
     return json.dumps({"code": code, "description": str(text)}, ensure_ascii=False).encode(errors="replace")
 
 
-def broken(fault):
+def broken(fault: Exception) -> str:
     """Prints a fault of this program, and says that there was one."""
     print(shown_lines(traceback.format_exc()), file=sys.stderr, flush=True)
     return f"the request can't be understood ({type(fault).__name__}: {fault})"
 
 
-def listener(port, wfs, ogc, **known):
-    """Listens on a port. `known`: whether it is behind nginx, and public."""
-    handler = type("Here", (Handler,), {"wfs": wfs, "ogc": ogc, **known})
+def listener(port: int, maps: Any, **known: bool) -> Listener:
+    """Listens on a port, for these maps. `known`: whether it is behind nginx, and public."""
+    handler = type("Here", (Handler,), {"maps": maps, **known})
     try:
         return Listener((HERE, port), handler)
     except OSError as fault:

@@ -26,6 +26,8 @@ class LiveMap:
 
     def __init__(self, client, further, log=None, schema=None):
         self.client, self.further, self.log, self.lock = client, further, log, threading.RLock()
+        # Of a machine with several maps, the name of this one, which is printed before what is told of it.
+        self.name = ""
         self.schema = schema or SchemaFile()
         self.edits = None
         self.now, self.groups = {}, defaultdict(dict)
@@ -34,6 +36,18 @@ class LiveMap:
         self.emptied = {key: Past(*row) for key, row in log.emptied.items()} if log else {}
         self.made_tables, self.changed_tables = {}, {*further, *self.emptied, *self.schema.now.tables()}
         self.known = {}
+
+    def tell(self, text):
+        """Prints a line about the map."""
+        print(f"{self.name}: {text}" if self.name else text, flush=True)
+
+    def forget(self):
+        """Forgets what the map has. It is listed anew by the next request."""
+        with self.lock:
+            self.edits = None
+            self.now, self.groups = {}, defaultdict(dict)
+            self.views, self.members, self.known = {}, defaultdict(dict), {}
+            self.made_tables, self.changed_tables = {}, {*self.further, *self.emptied, *self.schema.now.tables()}
 
     # ---- following
 
@@ -52,7 +66,7 @@ class LiveMap:
         now = dict(self.client.features())
         self.take({**{number: None for number in self.now if number not in now}, **now})
         self.edits = edits
-        print(f"the map has {len(now):,} features at edit {edits:,}", flush=True)
+        self.tell(f"the map has {len(now):,} features at edit {edits:,}")
 
     def follow(self):
         """Takes the edits since the last one that is known. Returns whether the server lists them, and they aren't too many."""
@@ -161,7 +175,7 @@ class LiveMap:
             if self.log:
                 self.log.empty(key, past)
         except Unwritable as fault:
-            print(fault, flush=True)
+            self.tell(str(fault))
 
     # ---- the schema
 

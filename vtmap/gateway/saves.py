@@ -115,7 +115,7 @@ class Saves:
             count = len({change.number for group in self.log.begun[number] for change in group})
             left = self.undo(number)
             but = f", but for {left}, which others have changed since" if left else ""
-            print(f"a save of {count:,} features was cut short, and is undone{but}", flush=True)
+            self.live.tell(f"a save of {count:,} features was cut short, and is undone{but}")
 
     def undo(self, number):
         """Undoes what was made of a save. Returns the features that others have changed since, so that they stay, as a text."""

@@ -160,6 +160,11 @@ class Sessions:
         session.boxes.clear()
         self.shown += session.count_shown()
 
+    def empty_all(self):
+        """Drops the boxes of all sessions."""
+        for session in self.all.values():
+            self.empty(session)
+
     def restore(self, row):
         """Takes what was noted of a save."""
         if row["session"]:

@@ -155,7 +155,7 @@ class Wfs:
             if not again or not all(is_there(self.live, session, fid) for fid in again):
                 counts, added = self.save((name, session), actions_of(root), again, mark, (person, is_meant))
             else:
-                print(f"saved: {shown(person)}: {len(again):,} sent again", flush=True)
+                self.live.tell(f"saved: {shown(person)}: {len(again):,} sent again")
             return wfs_texts.transacted(root.get("version", wfs_texts.V1.name), counts, added)
 
     def save(self, named, actions, again, mark, said):
@@ -169,7 +169,7 @@ class Wfs:
             made = task.make(self.saves, person)
         except Conflict as conflict:
             self.sessions.keep(name, session)
-            print(f"conflict: {shown(person)}: {'; '.join(conflict.features)}", flush=True)
+            self.live.tell(f"conflict: {shown(person)}: {'; '.join(conflict.features)}")
             raise
         except Doubted:
             self.sessions.keep(name, session)
@@ -181,7 +181,7 @@ class Wfs:
             session.note(*note)
         session.mark, session.added = mark, added
         self.sessions.keep(name, session)
-        print(f"saved: {shown(person)}: {told(task.counts)}{edits_told(made.edits)}", flush=True)
+        self.live.tell(f"saved: {shown(person)}: {told(task.counts)}{edits_told(made.edits)}")
         return task.counts, added
 
 

@@ -27,6 +27,8 @@ STARTED = ("vtserve@{}.service", "vtserve-publish@{}.timer", "vtserve-watch@{}.t
 GATEWAY, DRAWER = "vtserve-wfs@{}.service", "vtserve-wmts@{}.service"
 # Looks at all maps at once (`vtmap watch --maps`): where it is enabled, no map has a timer of its own for that.
 WATCH, WATCH_ALL = STARTED[2], "vtserve-watch-maps.timer"
+# Answers for all maps (`vtmap wfs --maps`): where it is enabled, no map has a gateway of its own.
+GATEWAY_ALL = "vtserve-wfs-maps.service"
 # What is done once at first: `vtmap watch` looks for both.
 FIRST = ("vtserve-publish@{}.service", "vtserve-backup@{}.service")
 OTHERS = (GATEWAY, DRAWER, "vtserve-log@{}.service", "vtserve-standby@{}.service")
@@ -133,10 +135,14 @@ class Machine:
 
     def start(self, one: MapHere, further: list[str]) -> None:
         """Starts what serves a map, now and with the machine. `further`: other units than each map has."""
-        is_watched = subprocess.run(["systemctl", "--quiet", "is-enabled", WATCH_ALL], check=False).returncode == 0
-        units = [unit.format(one.name) for unit in (*STARTED, *further) if unit != WATCH or not is_watched]
+        left = [unit for unit, of_all in ((WATCH, WATCH_ALL), (GATEWAY, GATEWAY_ALL)) if unit in (*STARTED, *further) and self.is_enabled(of_all)]
+        units = [unit.format(one.name) for unit in (*STARTED, *further) if unit not in left]
         self.systemctl("enable", "--now", *units)
         self.systemctl("start", "--no-block", *(unit.format(one.name) for unit in FIRST))
+
+    def is_enabled(self, unit: str) -> bool:
+        """Whether a unit is started with the machine."""
+        return subprocess.run(["systemctl", "--quiet", "is-enabled", unit], check=False).returncode == 0
 
     def stop(self, name: str) -> None:
         """Stops what serves a map, timers before what they start."""
@@ -161,7 +167,7 @@ class Machine:
     def tell_nginx(self, maps: list[MapHere]) -> bool:
         """Writes what nginx includes of these maps, and has it read that. Returns whether nginx runs."""
         os.makedirs(self.path(NGINX), exist_ok=True)
-        for name, text in files_of(maps).items():
+        for name, text in files_of(maps, self.is_enabled(GATEWAY_ALL)).items():
             replaced(self.path(NGINX, name), text)
         return self.reload_nginx()
 

@@ -4,6 +4,8 @@ import math
 from .map_file import MapHere
 
 ABOUT = "# Written by `vtmap maps`.\n"
+# Each map has the gateway of all maps (`vtmap wfs --maps`).
+ONE_GATEWAY = '"~." gateways;\n'
 
 
 def upstream_of(one: MapHere) -> str:
@@ -42,14 +44,15 @@ def bounds_of(one: MapHere) -> str:
     return f"""{one.name} ',"bounds":[{box}],"center":[{(west + east) / 2:g},{(south + north) / 2:g},{zoom}]';\n"""
 
 
-def files_of(maps: list[MapHere]) -> dict[str, str]:
-    """The files, by their names."""
+def files_of(maps: list[MapHere], has_one_gateway: bool = False) -> dict[str, str]:
+    """The files, by their names. `has_one_gateway`: whether all maps have one gateway."""
     hosts = [(host, one.name) for one in maps for host in one.hosts]
     return {
         "upstreams.conf": ABOUT + "".join(map(upstream_of, maps)),
         "hosts.conf": ABOUT + "".join(f"{host} {name};\n" for host, name in hosts),
         "paths.conf": ABOUT + "".join(f'"~^/{one.name}(/|\\?|$)" {one.name};\n' for one in maps),
         "rewrites.conf": ABOUT + "".join(map(rewrite_of, maps)),
+        "gateways.conf": ABOUT + ONE_GATEWAY * has_one_gateway,
         "bounds.conf": ABOUT + "".join(bounds_of(one) for one in maps if one.bounds),
         "names.conf": ABOUT + "".join(f"server_name {host};\n" for host, _ in hosts),
     }
