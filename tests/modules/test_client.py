@@ -183,11 +183,7 @@ class Asked(Leader):
 
 
 class AskedStandby(Asked, Standby):
-    """A standby whose replies are known, also those to requests in a row."""
-
-    def ask_in_a_row(self, requests):
-        for request in requests:
-            yield self.ask(*request)
+    """A standby whose replies are known."""
 
 
 STATUS = ("GET", "/admin/status")
@@ -234,21 +230,22 @@ class Feed(unittest.TestCase):
         standby = AskedStandby(
             (("POST", "/admin/edits/at/5"), 200, {"edit": 5}), (("POST", "/admin/edits/at/6"), 200, {"edit": 6})
         )
-        standby.take([{"edit": 5, "changes": [{"delete": 1}]}, {"edit": 6, "changes": [{"delete": 2}]}])
+        standby.take({"edit": 5, "changes": [{"delete": 1}]})
+        standby.take({"edit": 6, "changes": [{"delete": 2}]})
         self.assertEqual(
             (standby.at, standby.bodies), (6, [b'{"changes":[{"delete":1}]}', b'{"changes":[{"delete":2}]}'])
         )
 
     def test_a_standby_of_another_number_begins_again(self):
-        standby = AskedStandby(*[(("POST", "/admin/edits/at/5"), 409, b"Next 4\n")] * 2)
+        standby = AskedStandby((("POST", "/admin/edits/at/5"), 409, b"Next 4\n"))
         standby.at = 4
-        standby.take([{"edit": 5, "changes": []}, {"edit": 6, "changes": []}])
+        standby.take({"edit": 5, "changes": []})
         self.assertIsNone(standby.at)
 
     def test_a_standby_that_lacks_a_feature(self):
         with self.assertRaisesRegex(Stopped, "begin it anew"):
             AskedStandby((("POST", "/admin/edits/at/5"), 404, b"NotFound\n")).take(
-                [{"edit": 5, "changes": [{"delete": 1}]}]
+                {"edit": 5, "changes": [{"delete": 1}]}
             )
 
     def test_a_standby_that_somebody_has_edited(self):
@@ -257,12 +254,15 @@ class Feed(unittest.TestCase):
             standby = AskedStandby(
                 (STATUS, 200, {"edits": 5}), (("GET", "/admin/edits/from/5"), 200, {"edits": [row], "last": 5})
             )
-            leader = Asked((("GET", "/admin/edits/from/5"), 200, {"edits": [there], "last": 9}))
+            leader = Asked(
+                (STATUS, 200, {"edits": 9, "standby": {}}),
+                (("GET", "/admin/edits/from/5"), 200, {"edits": [there], "last": 9}),
+            )
             # (the maps themselves are compared the first time alone)
             standby.is_compared = True
             if there == row:
                 standby.begin(leader)
-                self.assertEqual(standby.at, 5)
+                self.assertEqual((standby.at, standby.is_needed), (5, True))
             else:
                 with self.assertRaisesRegex(Stopped, "was edited by somebody else"):
                     standby.begin(leader)

@@ -15,7 +15,7 @@ import operator
 import re
 import select
 import urllib.parse
-from collections.abc import Generator, Iterable, Iterator
+from collections.abc import Iterable, Iterator
 from dataclasses import dataclass
 from typing import Any, Optional, Tuple
 
@@ -28,7 +28,6 @@ from . import followers
 from .address import address
 from .edits import NOTHING, Change, batches, body_of, delete, encoded, fits
 from .refusals import FINAL, NO_ROOM, STATUSES, WORDS, WRONG_PASSWORD, told
-from .rows import Request, in_a_row
 
 CHECKED, PLAIN, FEED, PAGE, FROM = "/admin/edits", "/edits", "/admin/edits/from", "/admin/features/page", "/admin/features/from"
 # Requests that change nothing, and may be sent again. How often an edit is sent that isn't made.
@@ -137,19 +136,6 @@ class Client:
         except BaseException:
             self.close()
             raise
-
-    def ask_in_a_row(self, requests: Iterable[tuple[str, str, bytes]]) -> Generator[Reply, None, None]:
-        """The statuses and contents of the replies to several requests with JSON, each of which is sent before the replies to those before it have
-        come. A request is its method, its path and its body. If a reply doesn't come (`Lost`), any of those left may have been done."""
-        if self.connection and (self.ahead or is_ended(self.connection)):
-            self.close()
-        connection, top = self.connection or self.connect(), self.url.path.rstrip("/")
-        rows = (Request(method, top + path, body) for method, path, body in requests)
-        try:
-            yield from in_a_row(connection.sock, rows, self.url.netloc, {**self.person, "Content-Type": "application/json"})
-        except (OSError, http.client.HTTPException) as fault:
-            self.close()
-            raise Lost(f"no reply of {self.address}: {fault}") from fault
 
     def connect(self) -> http.client.HTTPConnection:
         """Opens a connection, and returns it. It takes no minutes, as what is asked for may."""

@@ -3,16 +3,28 @@
     leader, standby = Leader("http://127.0.0.1:8080"), Standby("http://127.0.0.1:8090")
     standby.begin(leader)
     edits, last = leader.edits_from(standby.at + 1)
-    standby.take(edits)
+    for edit in edits:
+        standby.take(edit)
+
+`passing.py` passes several on at once.
 """
-import contextlib
-import itertools
+from __future__ import annotations
+
+import http.client
+from collections.abc import Iterable, Iterator
+from typing import Any, Optional
 
 from ..faults import Fault, NoAnswer, Stopped
+from ..forms import ListedEdit as Edit
+from ..forms import Status, id_of
 from ..limits import MOST_BODY
-from .client import FEED, Client, word
+from .client import FEED, Client, is_ended, word
 from .edits import encoded
 from .refusals import WORDS, told
+from .rows import Request, Row
+
+# A row of a list of features.
+Listed = tuple[int, dict[str, Any]]
 
 NUMBERED = "/admin/edits/at"
 NO_FEED = "the server doesn't list its edits: it runs without --admin, or is older than that list"
@@ -26,7 +38,7 @@ THEN = ANEW[0].upper() + ANEW[1:]
 class LeftBehind(Fault):
     """A publication has freed the edits from a number on. `published`: the last edit of that publication."""
 
-    def __init__(self, address, number, published):
+    def __init__(self, address: str, number: int, published: int) -> None:
         super().__init__(f"{address} no longer lists edit {number:,}: it has published the edits up to {published:,}")
         self.number, self.published = number, published
 
@@ -34,22 +46,24 @@ class LeftBehind(Fault):
 class Leader(Client):
     """A server whose edits are listed."""
 
-    def stop_at(self, status, content):
+    def stop_at(self, status: int, content: bytes) -> None:
         """Stops at a refusal that every further request would get; one that passes is no answer."""
         if status in WAITED_FOR:
             said = word(content)
             raise NoAnswer(f"{self.address}: {said} ({told(WORDS[said])})" if said in WORDS else f"no reply of {self.address}: {status} {said}")
         super().stop_at(status, content)
 
-    def edits_from(self, number, wait=0, has_earlier=False):
+    def edits_from(self, number: int, wait: int = 0) -> tuple[list[Edit], int]:
         """The edits from a number on that one reply has, in order, and the number of the last edit. LeftBehind if they were published. If there are
-        none yet, the server waits up to `wait` seconds for one. `has_earlier` tells it that all edits before are on the disk of a standby."""
-        words = [f"wait={wait}"] * bool(wait) + ["standby"] * has_earlier
+        none yet, the server waits up to `wait` seconds for one."""
         path = f"{FEED}/{number}"
-        # What was sent ahead says nothing of a standby, and has edits to tell.
-        if words and self.ahead != ("GET", path):
-            path += "?" + "&".join(words)
-        status, content = self.ask("GET", path)
+        # What was sent ahead waits for nothing: it has edits to tell.
+        if wait and self.ahead != ("GET", path):
+            path += f"?wait={wait}"
+        return self.listed(number, *self.ask("GET", path))
+
+    def listed(self, number: int, status: int, content: bytes) -> tuple[list[Edit], int]:
+        """What a reply to the question for the edits from a number on says."""
         if status == 200:
             reply = self.value(content)
             for at, edit in enumerate(reply["edits"], number):
@@ -66,14 +80,29 @@ class Leader(Client):
         self.stop_at(status, content)
         raise Stopped(f"the edits from {number:,} on: {status} {word(content)}")
 
-    def known(self):
+    def row(self) -> Row:
+        """The kept connection, or a new one, for requests in a row. None may be asked otherwise before all of its replies are read."""
+        if self.connection and (self.ahead or is_ended(self.connection)):
+            self.close()
+        try:
+            connection = self.connection or self.connect()
+        except (OSError, http.client.HTTPException) as fault:
+            self.close()
+            raise NoAnswer(f"no reply of {self.address}: {fault}") from fault
+        return Row(connection.sock, self.url.netloc, self.person)
+
+    def request(self, method: str, path: str, body: bytes = b"") -> Request:
+        """A request of such a row."""
+        return Request(method, self.url.path.rstrip("/") + path, body)
+
+    def known(self) -> Status:
         """What the server tells of itself."""
         status = self.status()
         if status is None:
             raise Stopped(NO_FEED)
         return status
 
-    def edit(self, number):
+    def edit(self, number: int) -> Optional[Edit]:
         """The edit of a number, or None if it isn't listed any more, or was never made."""
         try:
             edits, _ = self.edits_from(number)
@@ -81,81 +110,66 @@ class Leader(Client):
             return None
         return edits[0] if edits else None
 
-    def changed_since(self, number):
+    def changed_since(self, number: int) -> set[int]:
         """The ids of the features that the edits after a number change. LeftBehind if these were published."""
-        found, last = set(), self.known()["edits"]
+        found: set[int] = set()
+        last = self.known()["edits"]
         while number < last:
             edits, last = self.edits_from(number + 1)
-            found |= {change.get("put", change.get("delete")) for edit in edits for change in edit["changes"]}
+            found |= {id_of(change) for edit in edits for change in edit["changes"]}
             number += len(edits)
         return found
 
 
 class Standby(Leader):
     """A server that makes the edits of another one. `at` is the number of its last edit, None where that has to be asked for; `is_compared`: whether
-    its map was compared with the leader's."""
+    its map was compared with the leader's; `is_needed`: whether the leader acknowledges an edit once a standby has it."""
 
-    at, is_compared = None, False
+    at: Optional[int] = None
+    is_compared = is_needed = False
 
-    def begin(self, leader):
+    def begin(self, leader: Leader) -> None:
         """Asks for the last edit, and compares it with the same edit of the leader. Compares the maps the first time, and where one of them doesn't
         list that edit any more."""
-        self.at = self.known()["edits"]
-        here = self.edit(self.at) if self.at else None
-        there = leader.edit(self.at) if here else None
+        self.is_needed = "standby" in leader.known()
+        at = self.at = self.known()["edits"]
+        here = self.edit(at) if at else None
+        there = leader.edit(at) if here else None
         if there and encoded(here) != encoded(there):
-            raise Stopped(f"edit {self.at:,} of {self.address} isn't that of {leader.address}: it was edited by somebody else. {THEN}")
-        if self.at and not (there and self.is_compared):
-            self.compare(leader)
+            raise Stopped(f"edit {at:,} of {self.address} isn't that of {leader.address}: it was edited by somebody else. {THEN}")
+        if at and not (there and self.is_compared):
+            self.compare(leader, at)
         self.is_compared = True
 
-    def compare(self, leader):
-        """Compares the map with the leader's. Features that edits since then change may differ: those edits are made here next. If the leader has
-        fewer edits, the next request for them says so."""
-        if self.at > leader.known()["edits"]:
+    def compare(self, leader: Leader, at: int) -> None:
+        """Compares the map with the leader's, after its last edit. Features that edits since then change may differ: those edits are made here next. If
+        the leader has fewer edits, the next request for them says so."""
+        if at > leader.known()["edits"]:
             return
         other = set(differing(self.features(), leader.features()))
-        other -= leader.changed_since(self.at) if other else set()
+        other -= leader.changed_since(at) if other else set()
         if other:
-            raise Stopped(f"feature {min(other):,} of {self.address} isn't that of {leader.address}, and no edit after {self.at:,} changes it: one of the "
+            raise Stopped(f"feature {min(other):,} of {self.address} isn't that of {leader.address}, and no edit after {at:,} changes it: one of the "
                           f"servers was put back from a copy, or edited by somebody else. {THEN}")
 
-    def take(self, edits):
-        """Makes edits, the first of which is the one after the last. If the number of its next edit is another one, it has to begin again."""
-        while edits:
-            edits = edits[self.take_in_a_row(edits):]
-            if edits:
-                status, content = self.reply_to(edits[0])
-                if status == 409 and content.startswith(b"Next "):
-                    self.at = None
-                    return
-                if status != 200:
-                    self.refused(edits[0], status, content)
-                self.at, edits = edits[0]["edit"], edits[1:]
+    def take(self, edit: Edit) -> None:
+        """Makes the edit after the last one. If the number of its next edit is another one, it has to begin again."""
+        status, content = self.reply_to(edit)
+        if status == 409 and content.startswith(b"Next "):
+            self.at = None
+        elif status == 200:
+            self.at = edit["edit"]
+        else:
+            self.refused(edit, status, content)
 
-    def take_in_a_row(self, edits):
-        """Makes edits whose requests are sent in a row, up to the first one that is refused or too long for that. Returns how many. Those after one
-        that is refused are refused too, since each is made under its own number alone."""
-        bodies = list(itertools.takewhile(lambda body: len(body) <= MOST_BODY, map(body_of, edits)))
-        if len(bodies) < 2:
-            return 0
-        made = 0
-        requests = (("POST", f"{NUMBERED}/{edit['edit']}", body) for edit, body in zip(edits, bodies))
-        with contextlib.closing(self.ask_in_a_row(requests)) as replies:
-            for edit, (status, _) in zip(edits, replies):
-                if status != 200:
-                    break
-                self.at, made = edit["edit"], made + 1
-        return made
-
-    def reply_to(self, edit):
+    def reply_to(self, edit: Edit) -> tuple[int, bytes]:
         """The reply to an edit that gets its own number or isn't made."""
         body = body_of(edit)
         if len(body) > MOST_BODY:
             return self.put_alone(edit)
         return self.sent("POST", f"{NUMBERED}/{edit['edit']}", body)
 
-    def put_alone(self, edit):
+    def put_alone(self, edit: Edit) -> tuple[int, bytes]:
         """The reply to an edit whose changes are too long for a body: it has put one feature, whose JSON alone isn't. A PUT gets whichever number is
         the next one, so that is asked for before, and seen in the reply."""
         number, (change,) = self.known()["edits"] + 1, edit["changes"]
@@ -166,7 +180,7 @@ class Standby(Leader):
             raise Stopped(f"edit {edit['edit']:,} has another number at {self.address}: it was edited by somebody else. {THEN}")
         return status, content
 
-    def sent(self, method, path, body):
+    def sent(self, method: str, path: str, body: bytes) -> tuple[int, bytes]:
         """The reply to a request. If the journal is full, it is sent again after a publication."""
         status, content = self.ask(method, path, body)
         if status == 507 and content.startswith(b"JournalFull") and self.publishes:
@@ -175,7 +189,7 @@ class Standby(Leader):
             status, content = self.ask(method, path, body)
         return status, content
 
-    def refused(self, edit, status, content):
+    def refused(self, edit: Edit, status: int, content: bytes) -> None:
         """Stops at a refusal."""
         said = word(content)
         if status == 404 and said == "NotFound":
@@ -186,12 +200,12 @@ class Standby(Leader):
         raise Stopped(f"edit {edit['edit']:,} isn't made at {self.address}: {status} {said}{reason}")
 
 
-def body_of(edit):
+def body_of(edit: Edit) -> bytes:
     """The body of the request for an edit of the feed."""
     return encoded({"changes": edit["changes"]})
 
 
-def differing(one, other):
+def differing(one: Iterable[Listed], other: Iterable[Listed]) -> Iterator[int]:
     """The ids whose features differ between two lists, which are in the order of ids."""
     one, other = iter(one), iter(other)
     here, there = next(one, None), next(other, None)

@@ -5,7 +5,7 @@ import argparse
 import json
 import re
 import time
-from collections.abc import Iterable, Iterator
+from collections.abc import Iterable, Iterator, Mapping
 from datetime import date, datetime, timedelta, timezone
 from typing import Any, NamedTuple
 
@@ -252,7 +252,7 @@ class Trail:
             time.sleep(0.05)
 
 
-def bare(changes: list[dict[str, Any]]) -> bytes:
+def bare(changes: Iterable[Mapping[str, Any]]) -> bytes:
     """Changes without what they replaced."""
     return encoded([{name: value for name, value in change.items() if name != "was"} for change in changes])
 

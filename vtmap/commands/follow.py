@@ -1,13 +1,18 @@
 """`vtmap follow`: follows the edits of a running `vtserve serve --admin`, into standbys, into a log, or both. Needs no package."""
+from __future__ import annotations
+
+import argparse
 import os
 import subprocess
 import sys
 import threading
 import time
 from datetime import datetime, timezone
+from typing import Optional, TextIO, Union
 
 from ..client.client import FEED
 from ..client.feed import THEN, Leader, LeftBehind, Standby
+from ..client.passing import Passing
 from ..ending import regular
 from ..faults import Fault, NoAnswer, Stopped
 from ..files.edit_log import EditLog
@@ -50,11 +55,11 @@ Each standby and the log is followed by itself: where one can't go on, it says w
 with --once once all edits are followed."""}
 # How many seconds there are between two looks whether the server has published.
 LOOK = 10
-# How many seconds the server is to wait for the next edit, and the shortest such wait: an older server replies at once.
-WAIT, SHORTEST = 2, 1
+# How many seconds the server is to wait for the next edit.
+WAIT = 2
 
 
-def say(line, out=sys.stdout):
+def say(line: str, out: TextIO = sys.stdout) -> None:
     """Prints a line by one call: of two threads that print one, none comes between the other's line and its end."""
     print(line + "\n", end="", file=out, flush=True)
 
@@ -62,15 +67,17 @@ def say(line, out=sys.stdout):
 class Follower:
     """Passes the edits of a server on to one standby, or to a log."""
 
-    def __init__(self, words, sink):
+    def __init__(self, words: argparse.Namespace, sink: Union[Standby, EditLog]) -> None:
         self.words, self.sink = words, sink
         self.leader = Leader(words.url)
         # With which status it ends, what was said last of who doesn't answer, the server's publication that is known, and whether it has begun.
-        self.status, self.told, self.generation, self.is_begun = 1, None, None, False
+        self.status, self.is_begun = 1, False
+        self.told: Optional[str] = None
+        self.generation: Optional[int] = None
         # When the server was looked at, and whether its last reply had no edits and came at once.
         self.looked, self.is_early = 0.0, True
 
-    def run(self):
+    def run(self) -> None:
         """Follows until it can't go on, or with --once until all edits are followed."""
         try:
             while not self.is_done():
@@ -83,13 +90,16 @@ class Follower:
         except OSError as fault:
             say(f"{fault}" if fault.filename else f"{self.sink.address}: {fault}", sys.stderr)
 
-    def is_done(self):
+    def is_done(self) -> bool:
         """Passes on what there is. Returns whether it is to end."""
         try:
             if not self.is_begun or self.sink.at is None:
                 self.begin()
-            while self.pass_on():
-                pass
+            if isinstance(self.sink, Standby):
+                self.pass_on(self.sink)
+            else:
+                while self.has_logged(self.sink):
+                    pass
             self.publish_after()
             self.told = None
             return self.words.once and self.sink.at is not None and self.sink.at >= self.leader.known()["edits"]
@@ -99,32 +109,34 @@ class Follower:
             self.wait_for(fault)
         return False
 
-    def begin(self):
+    def begin(self) -> None:
         """Finds out where the standby, or the log, is."""
         self.sink.begin(self.leader)
-        if not self.is_begun:
+        if not self.is_begun and self.sink.at is not None:
             say(f"{self.sink.address}: following {self.leader.address} from edit {self.sink.at + 1} on")
         self.is_begun = True
 
-    def pass_on(self):
-        """Passes the edits of one reply on. Returns whether there are more."""
-        asked, began = datetime.now(timezone.utc), time.monotonic()
-        is_standby = isinstance(self.sink, Standby)
-        # A log's lines say when there was no later edit: that is asked for again and again.
-        wait = WAIT if is_standby and not self.words.once else 0
-        edits, last = self.leader.edits_from(self.sink.at + 1, wait, is_standby)
-        self.is_early = not edits and time.monotonic() < began + SHORTEST
+    def pass_on(self, standby: Standby) -> None:
+        """Passes edits on to a standby, for some seconds at most."""
+        passing, end = Passing(self.leader, standby, 0 if self.words.once else WAIT), time.monotonic() + LOOK
+        passing.run(lambda: time.monotonic() > end)
+        self.is_early = passing.is_early
+
+    def has_logged(self, log: EditLog) -> bool:
+        """Logs the edits of one reply. Returns whether there are more. A log's lines say when there was no later edit: that is asked for again and
+        again, and no question rests."""
+        asked = datetime.now(timezone.utc)
+        edits, last = self.leader.edits_from(log.reached() + 1)
+        self.is_early = not edits
         if edits:
             if edits[-1]["edit"] < last:
                 self.leader.send_ahead(f"{FEED}/{edits[-1]['edit'] + 1}")
-            self.sink.take(edits)
-        if isinstance(self.sink, EditLog) and (not edits or edits[-1]["edit"] == last):
-            self.sink.look(asked)
-        if self.sink.at is None:
-            self.begin()
-        return self.sink.at < last
+            log.take(edits)
+        if not edits or edits[-1]["edit"] == last:
+            log.look(asked)
+        return log.reached() < last
 
-    def publish_after(self):
+    def publish_after(self) -> None:
         """Publishes a standby if the server has published since the last look."""
         if not isinstance(self.sink, Standby) or not self.words.publish or time.monotonic() < self.looked + LOOK:
             return
@@ -135,7 +147,7 @@ class Follower:
             self.sink.publish()
         self.generation = generation
 
-    def left_behind(self, behind):
+    def left_behind(self, behind: LeftBehind) -> None:
         """Goes on after a publication of edits that weren't read: a log misses them, and a standby begins anew."""
         if isinstance(self.sink, EditLog):
             self.sink.miss(self.leader, behind.published)
@@ -151,7 +163,7 @@ class Follower:
             raise Stopped(f"--anew: {fault}") from fault
         self.is_begun = False
 
-    def wait_for(self, fault):
+    def wait_for(self, fault: NoAnswer) -> None:
         """Waits for the server, or the standby, which then says anew where it is: an edit whose reply was lost is made or not."""
         if self.words.once:
             raise fault
@@ -161,7 +173,7 @@ class Follower:
             say(f"{fault}: waiting")
 
 
-def work(words):
+def work(words: argparse.Namespace) -> int:
     """Follows into each standby and into the log, each by itself."""
     sinks = [Standby(url.rstrip("/"), words.publish) for url in words.to] + ([EditLog(regular(words.log))] if words.log else [])
     teller = Teller(words.log, words.run, Choice(words.layer, words.bbox), say) if words.run else None
@@ -178,7 +190,7 @@ def work(words):
     return max([follower.status for follower in followers] + ([teller.end()] if teller and words.once else []))
 
 
-def options(parser, _):
+def options(parser: argparse.ArgumentParser, _: str) -> None:
     """The words of the command."""
     parser.add_argument("--to", metavar="URL", action="append", default=[], help="a standby; may be given several times")
     parser.add_argument("--log", metavar="FILE", help="append each edit to this file")
@@ -191,7 +203,7 @@ def options(parser, _):
     parser.add_argument("--once", action="store_true", help="end once all edits are followed")
 
 
-def fault_of(words):
+def fault_of(words: argparse.Namespace) -> Optional[str]:
     """What is wrong with the command line."""
     if words.run and not words.log:
         return "--run needs --log"

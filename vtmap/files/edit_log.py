@@ -144,6 +144,12 @@ class EditLog:
             self.logged = self.map.at
         self.keep_number()
 
+    def reached(self) -> int:
+        """`at`, which `begin` finds out."""
+        if self.at is None:
+            raise Stopped(f"{self.path} isn't begun")
+        return self.at
+
     def begun(self) -> tuple[KeptMap, int]:
         """The map and the number of the last line, which `begin` finds out."""
         if self.map is None or self.logged is None:
