@@ -21,6 +21,7 @@ DEFINED = re.compile(r"^ *(?:(?:abbrev|unfoldable) pub|pub record|pub data) ([^\
 LOCAL = re.compile(r"^ *(?:abbrev|unfoldable|record|data|use|module|mutual|pub (?:record|data|mod)|mod)\b")
 STATED = re.compile(r"^( *)(?:pub )?([A-Za-z_][\w'≢≡-]*) : ")
 NAMED = re.compile(r"[A-Za-z_][\w'≢≡-]*")
+IMPORTED = re.compile(r"^(?:ghost )?use Rattle\.(\w+)\.proofs\.([\w.]+?)(?:\.\{([^}]*)\}| as (\w+));?$", re.M)
 READ = re.compile(r"Laws$|^LimitNumbers$|^StepLimit$|Forms$|^Examples$|^Unique$")
 WORD = re.compile(r"[A-Za-z_][\w'-]*(?:\.[A-Za-z_][\w'-]*)*")
 
@@ -110,25 +111,48 @@ def spoken_of(crate):
             yield path, module, line, name, set(named(statement, names))
 
 
+def uses():
+    """The lemmas that files name: of each module of proofs/, as its crate and its name, the names that others import, write behind it, or give to a
+    tactic."""
+    found = collections.defaultdict(set)
+    for path in CRATES.rglob("*"):
+        if path.suffix not in (".rt", ".antt") or "out" in path.parts:
+            continue
+        text, own = path.read_text(), path.relative_to(CRATES).parts[0]
+        for crate, module, listed, other in IMPORTED.findall(text):
+            if other:
+                listed = ",".join(re.findall(rf"(?<![\w'-]){other}\.([\w'≢≡-]+)", text))
+            found[crate, module].update(name.split(" as ")[0].strip() for name in listed.split(","))
+        for module, name in re.findall(r"crate::proofs::([\w:]+)::([\w'≢≡-]+)", text):
+            found[own, module.replace("::", ".")].add(name)
+    return found
+
+
 def unused():
-    """Prints each lemma that no other line has than its own, but for laws, limits and worked forms, which are there to be read, and for those that
+    """Prints each lemma that nothing names but itself, but for laws, limits and worked forms, which are there to be read, and for those that
     docs/PROMISES.md names. Returns how many."""
     promised = set(NAMED.findall((ROOT / "docs" / "PROMISES.md").read_text()))
-    texts = [path.read_text() for path in CRATES.rglob("*") if path.suffix in (".rt", ".antt") and "out" not in path.parts]
-    count = collections.Counter(word for text in texts for word in NAMED.findall(text))
-    found = 0
+    elsewhere, found = uses(), 0
     for crate in crates():
-        for path, _, line, name, _ in spoken_of(crate):
-            if name not in promised and not READ.search(path.stem) and count[name] == own_lines(path.read_text().split("\n"), line, name):
+        for path, module, line, name, _ in spoken_of(crate):
+            lines = path.read_text().split("\n")
+            if name in promised or READ.search(path.stem) or name in elsewhere[crate, module]:
+                continue
+            if name not in NAMED.findall("\n".join(lines[: line - 1] + lines[end_of(lines, line, name) :])):
                 print(f"{path.relative_to(ROOT)}:{line}: {name}")
                 found += 1
     return found
 
 
-def own_lines(lines, line, name):
-    """How many lines of a file declare a lemma or are one of its clauses."""
-    depth = indented(lines[line - 1])
-    return 1 + sum(indented(other) == depth and NAMED.findall(other)[:1] == [name] for other in lines[line:])
+def end_of(lines, line, name):
+    """Behind which line of a file a lemma ends that begins in this one: it has its clauses, and what is indented."""
+    depth, end = indented(lines[line - 1]), line
+    for at, other in enumerate(lines[line:], line + 1):
+        if other.strip():
+            if indented(other) <= depth and NAMED.findall(other)[:1] not in ([name], ["unfolding"]) and other.strip()[0] not in "])}":
+                break
+            end = at
+    return end
 
 
 def about(names):
