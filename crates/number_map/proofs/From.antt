@@ -1,13 +1,12 @@
 -- The first entry with a number or a greater one.
 use Rattle.std.proofs.Common.{◌≡◌, ℕ, zero, suc, ◌+◌, ◌<◌, ◌≤◌, cond, true, false, List, [], ◌∷◌, ◌++◌, length, get_or, take, drop, Option, Some, None}
-use Rattle.std.proofs.Common.{refl, sym, ap, subst, ◌∙◌, inl, inr, arith}
+use Rattle.std.proofs.Common.{refl, sym, ap, ◌∙◌, inl, inr, arith}
 use Rattle.std.specs.Prelude.{nat_le, slice_get, IfSome, MatchOption}
 use Rattle.std.specs.Option.{option_or, option_copied}
 use Rattle.std.specs.Borrow.{Bor}
 use Rattle.std.proofs.lemmas.Bool.{cases_lt}
 use Rattle.std.proofs.lemmas.Bool.Decides.{nat_tests}
-use Rattle.std.proofs.lemmas.List.{drop_more}
-use Rattle.number_map.specs.Blocks.{joined, first_from, AreBelow, AreAbove, AreFilled, IsHome}
+use Rattle.number_map.specs.Blocks.{joined, first_from, AreBelow, AreAbove, IsHome}
 use Rattle.number_map.specs.Positions.{HasAt, IsGapFor}
 use Rattle.number_map.proofs.Joined.{joined_at}
 
@@ -73,18 +72,6 @@ module _ {T : Type 0} where
   ]
 
   -- ---- in blocks
-
-  -- the entries of blocks that have some begin with those of the first one
-  pub first_of_all : (bs : List (List (ℕ × T))) (i : ℕ) (b : List (ℕ × T)) → AreFilled bs → i < length bs → b ≡ get_or bs i b
-      → slice_get (joined (drop i bs)) 0 ≡ slice_get b 0
-  first_of_all bs i b filled lt is =
-      ap (λ cs. slice_get (joined cs) 0) (drop_more bs i b lt)
-      ∙ ap (λ c. slice_get (c ++ joined (drop (i + 1) bs)) 0) (sym is)
-      ∙ of_filled b (joined (drop (i + 1) bs)) (subst (λ c. 0 < length c) (sym is) (filled i b lt))
-    where
-      of_filled : (xs ys : List (ℕ × T)) → 0 < length xs → slice_get (xs ++ ys) 0 ≡ slice_get xs 0
-      of_filled [] ys some = absurd (omega arith)
-      of_filled (x ∷ xs) ys some = refl
 
   module _ (bs : List (List (ℕ × T))) (n i : ℕ) (home : IsHome bs n i) where
     -- it is in the block where the number belongs, or the first one after that

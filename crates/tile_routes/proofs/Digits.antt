@@ -1,13 +1,12 @@
 -- A number is read digit by digit.
-use Rattle.std.proofs.Common.{◌≡◌, ℕ, ◌+◌, ◌-◌, ◌*◌, ◌^◌, ◌<◌, ◌≤◌, List, [], ◌∷◌, true, false, Option, Some, None, length, drop, get_or}
-use Rattle.std.proofs.Common.{add-one, drop-cons, refl, sym, ap, ◌∙◌, arith}
+use Rattle.std.proofs.Common.{◌≡◌, ℕ, ◌-◌, ◌^◌, ◌<◌, ◌≤◌, List, [], ◌∷◌, true, false, Option, Some, None, length, drop}
+use Rattle.std.proofs.Common.{refl, ap, arith}
 use native.Mathlib.Nat.{pow-le-pow_right}
 use Rattle.std.specs.Prelude.{MatchOption, IfSome, nat_lt}
 use Rattle.std.specs.List.{list_all}
 use Rattle.std.specs.Char.{digit_value, is_ascii_digit}
 use Rattle.std.specs.Str.Parse.{AllDigits, digits_value, digits_value_after}
 use Rattle.std.proofs.lemmas.Bool.Decides.{nat_tests}
-use Rattle.std.proofs.lemmas.List.{at_drop_all}
 use Rattle.std.proofs.lemmas.Str.Parse.{IsNumeralModel, digits_value_short}
 use Rattle.feature_model.specs.declared.limits.TheConstants.{NUMBER_END}
 use Rattle.tile_routes.specs.Number.{begins_plain, number_of}
@@ -18,38 +17,6 @@ pub record IsReading (text : List ℕ) (i number : ℕ) : Type 0 where
   pub value : digits_value_after 10 number (drop i text) ≡ digits_value 10 text
   pub small : number < 10 ^ i
 
-rest-is : (text : List ℕ) (i : ℕ) → i < length text → drop i text ≡ get_or text i 0 ∷ drop (i + 1) text
-rest-is text i within = rw add-one (drop-cons text i 0 within)
-
--- a byte that isn't a digit
-pub not-digits : (text : List ℕ) (i number : ℕ) → IsReading text i number → i < length text → is_ascii_digit (get_or text i 0) ≡ false
-    → list_all is_ascii_digit text ≡ false
-not-digits text i number so_far within other =
-    sym so_far.digits ∙ (ap (list_all is_ascii_digit) (rest-is text i within) ∙ first-fails (get_or text i 0) (drop (i + 1) text) other)
-  where
-    first-fails : (b : ℕ) (bs : List ℕ) → is_ascii_digit b ≡ false → list_all is_ascii_digit (b ∷ bs) ≡ false
-    first-fails b bs is = rw is refl
-
-digit-is : (b : ℕ) → is_ascii_digit b ≡ true → (digit_value b ≡ b - 48) × (b - 48 < 10) × (48 ≤ b)
-digit-is b is = (grind (arith, nat_tests), grind (arith, nat_tests), grind (arith, nat_tests))
-
--- one digit more
-pub more-digits : (text : List ℕ) (i number : ℕ) → IsReading text i number → i < length text → is_ascii_digit (get_or text i 0) ≡ true
-    → IsReading text (i + 1) (number * 10 + (get_or text i 0 - 48))
-more-digits text i number so_far within is =
-    let b = get_or text i 0 in
-    let digit = digit-is b is in
-    let rest = rest-is text i within in
-    record {
-      digits = sym (first-passes b (drop (i + 1) text) is) ∙ (sym (ap (list_all is_ascii_digit) rest) ∙ so_far.digits);
-      value = ap (λ (d : ℕ). digits_value_after 10 (number * 10 + d) (drop (i + 1) text)) (sym digit.0)
-          ∙ (sym (ap (digits_value_after 10 number) rest) ∙ so_far.value);
-      small = let below = so_far.small in rw add-one (omega (arith, below, digit.1));
-    }
-  where
-    first-passes : (b : ℕ) (bs : List ℕ) → is_ascii_digit b ≡ true → list_all is_ascii_digit (b ∷ bs) ≡ list_all is_ascii_digit bs
-    first-passes b bs is = rw is refl
-
 -- as long as more may follow, the number is small
 pub fits-more : (text : List ℕ) (i number : ℕ) → IsReading text i number → i < length text → length text ≤ 18 → number < 10 ^ 17
 fits-more text i number so_far within few =
@@ -57,14 +24,6 @@ fits-more text i number so_far within few =
     let most : 10 ^ i ≤ 10 ^ 17 = pow-le-pow_right {n = 10} (omega arith) before in
     let below = so_far.small in
     omega (arith, below, most)
-
--- all are read
-pub all-read : (text : List ℕ) (i number : ℕ) → IsReading text i number → length text ≤ i
-    → (list_all is_ascii_digit text ≡ true) × (number ≡ digits_value 10 text)
-all-read text i number so_far past = (
-  sym so_far.digits ∙ at_drop_all (λ (bs : List ℕ). list_all is_ascii_digit bs) text i past,
-  sym (at_drop_all (λ (bs : List ℕ). digits_value_after 10 number bs) text i past) ∙ so_far.value,
-)
 
 -- ---- the number of a text
 
