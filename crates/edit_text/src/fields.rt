@@ -1,6 +1,7 @@
 //! Reads numbers and texts at the start of bytes, and returns each with the bytes after it.
 
-ghost use Rattle.std.specs.Prelude.{◌≡◌, ℕ, ◌≤◌, length, IfOk};
+ghost use Rattle.std.specs.Prelude.{◌≡◌, ℕ, ◌≤◌, length, IfOk, IfSome, IfNone, IsTrue, IsAscii};
+ghost use Rattle.std.specs.Str.{IsUtf8};
 ghost use Rattle.reader.specs.Reading.{Reads};
 ghost use Rattle.edit_text.specs.Reading.{byte_at, front_at, two_at, four_at, eight_at, number_at, text_at, name_at, long_text_at};
 
@@ -70,15 +71,37 @@ pub(crate) fn read_number(bytes: &[u8]) -> Result<(u64, &[u8]), TextFault>
     Ok((number, rest))
 }
 
+/// The most bytes that are looked at one by one. Most keys and texts have fewer, and most are ASCII.
+const FEW: usize = 16;
+
+/// Whether all bytes are ASCII.
+fn are_ascii(bytes: &[u8]) -> bool
+    ensures { IsTrue result → IsAscii bytes.now }
+{
+    bytes.iter().all(|byte| *byte < 128)
+}
+
+/// The text that the bytes are, if they are UTF-8.
+fn text_of(bytes: &[u8]) -> Option<&str>
+    ensures text { IfSome result (λ text. (text.now ≡ bytes.now) × IsUtf8 bytes.now) }
+    ensures none { IfNone result (¬ IsUtf8 bytes.now) }
+{
+    if bytes.len() <= FEW && are_ascii(bytes) {
+        // SAFETY: the bytes are ASCII.
+        return Some(unsafe { str::from_utf8_unchecked(bytes) });
+    }
+    str::from_utf8(bytes).ok()
+}
+
 /// `len` bytes of UTF-8.
 #[tactic(auto, using(crate::proofs::Utf8Tests::utf8_tests), unfolding(crate::specs::Reading::text_at))]
 fn read_text(bytes: &[u8], len: usize) -> Result<(&str, &[u8]), TextFault>
     ensures { Reads (λ r. (r.0.now, r.1.now)) result (text_at len bytes.now) }
 {
     let (front, rest) = read_front(bytes, len)?;
-    match str::from_utf8(front) {
-        Ok(text) => Ok((text, rest)),
-        Err(_) => Err(TextFault::Bad),
+    match text_of(front) {
+        Some(text) => Ok((text, rest)),
+        None => Err(TextFault::Bad),
     }
 }
 

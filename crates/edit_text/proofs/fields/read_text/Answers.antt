@@ -8,10 +8,10 @@ pub returns-in_err-front : goal.returns-in_err-front
 unfolding text_at
 returns-in_err-front c = grind (arith, common_steps, utf8_tests)
 
-pub returns-in-Ok : goal.returns-in-Ok
+pub returns-in-Some : goal.returns-in-Some
 unfolding text_at
-returns-in-Ok c = grind (arith, common_steps, utf8_tests)
+returns-in-Some c = grind (arith, common_steps, utf8_tests)
 
-pub returns-in-Err : goal.returns-in-Err
+pub returns-in-None : goal.returns-in-None
 unfolding text_at
-returns-in-Err c = grind (arith, common_steps, utf8_tests)
+returns-in-None c = grind (arith, common_steps, utf8_tests)
