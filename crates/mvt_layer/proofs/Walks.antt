@@ -1,5 +1,5 @@
 -- One walk over a message, where each field number has a state of its own.
-use Rattle.std.proofs.Common.{◌≡◌, ◌≢◌, List, [], ◌∷◌, Result, Ok, Err, sym}
+use Rattle.std.proofs.Common.{◌≡◌, ◌≢◌, List, [], ◌∷◌, Result, Ok, Err, refl, sym}
 use Rattle.reader.specs.Reading.{Read, Gives, folded}
 use Rattle.reader.proofs.Steps.{same_fault, not_both, folded_on, folded_stop, folded_done}
 use Rattle.mvt_layer.specs.declared.fault.TileFault.{TileFault}
@@ -10,6 +10,11 @@ use Rattle.mvt_layer.specs.Reading.{onward}
 abbrev pub Leads : {X S A : Type 0} → (X → S) → Result X TileFault → (S → Read TileFault A) → Read TileFault A → Type 0
 Leads view (Ok x) next whole = next (view x) ≡ whole
 Leads view (Err d) next whole = d ≢ Memory → whole ≡ Err d
+
+-- a state of which nothing is said stays
+pub kept : {X S : Type 0} (view : X → S) (before : Result X TileFault) → Gives Memory view before (onward view before (λ s. Ok s))
+kept view (Ok x) = refl
+kept view (Err d) = λ _. refl
 
 -- one item more, after which the state is seen another way
 pub leads_to : {X S I : Type 0} (view later : X → S) (step : S → I → Read TileFault S)

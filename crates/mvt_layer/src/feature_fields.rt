@@ -41,6 +41,43 @@ fn with_item(
     }
 }
 
+/// Adds what one item more says. A field changes what is said of its number alone.
+#[tactic(auto, using(crate::proofs::Walks::kept))]
+fn add_item(
+    fields: &mut FeatureFields,
+    indices: &mut Vec<u32>,
+    ints: &mut Vec<u32>,
+    item: FieldItem<'_>,
+)
+    ensures id { Gives TileFault.Memory (λ n. n) fields.new.id (onward (λ n. n) fields.old.id (λ n. after FEATURE_ID number_after n (item_view item.entry))) }
+    ensures kind { Gives TileFault.Memory (λ n. n) fields.new.kind (onward (λ n. n) fields.old.kind (λ n. after FEATURE_TYPE number_after n (item_view item.entry))) }
+    ensures indices { Gives TileFault.Memory (λ _. indices.new.items) fields.new.indices
+        (onward (λ _. indices.old.items) fields.old.indices (λ ns. after FEATURE_TAGS numbers_after ns (item_view item.entry))) }
+    ensures ints { Gives TileFault.Memory (λ _. ints.new.items) fields.new.ints
+        (onward (λ _. ints.old.items) fields.old.ints (λ ns. after FEATURE_GEOMETRY numbers_after ns (item_view item.entry))) }
+{
+    match item {
+        Ok(field) => match field.number {
+            FEATURE_ID => fields.id = number_then(FEATURE_ID, fields.id, item),
+            FEATURE_TAGS => fields.indices = numbers_then(
+                FEATURE_TAGS,
+                fields.indices,
+                indices,
+                item,
+            ),
+            FEATURE_TYPE => fields.kind = number_then(FEATURE_TYPE, fields.kind, item),
+            FEATURE_GEOMETRY => fields.ints = numbers_then(
+                FEATURE_GEOMETRY,
+                fields.ints,
+                ints,
+                item,
+            ),
+            _ => {}
+        },
+        Err(_) => *fields = with_item(*fields, indices, ints, item),
+    }
+}
+
 /// What all the fields say. The two lists are cleared first.
 pub(crate) fn feature_fields(
     indices: &mut Vec<u32>,
@@ -61,7 +98,7 @@ pub(crate) fn feature_fields(
         ints: Ok(()),
     };
     for item in Fields::new(bytes) {
-        fields = with_item(fields, indices, ints, item);
+        add_item(&mut fields, indices, ints, item);
     }
     fields
 }

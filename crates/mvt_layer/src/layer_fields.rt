@@ -69,6 +69,44 @@ fn with_item<'a>(
     }
 }
 
+/// Adds what one item more says. A field changes what is said of its number alone.
+#[tactic(auto, using(crate::proofs::Walks::kept))]
+fn add_item<'a>(
+    so_far: &mut SoFar<'a>,
+    features: &mut Vec<&'a [u8]>,
+    keys: &mut Vec<&'a [u8]>,
+    values: &mut Vec<&'a [u8]>,
+    item: FieldItem<'a>,
+)
+    ensures name { Gives TileFault.Memory (option_map (λ b. b.now)) so_far.new.name
+        (onward (option_map (λ b. b.now)) so_far.old.name (λ last. after LAYER_NAME bytes_after last (item_view item.entry))) }
+    ensures features { Gives TileFault.Memory (λ _. bytes_of features.new.items) so_far.new.features
+        (onward (λ _. bytes_of features.old.items) so_far.old.features (λ parts. after LAYER_FEATURES parts_after parts (item_view item.entry))) }
+    ensures keys { Gives TileFault.Memory (λ _. bytes_of keys.new.items) so_far.new.keys
+        (onward (λ _. bytes_of keys.old.items) so_far.old.keys (λ parts. after LAYER_KEYS parts_after parts (item_view item.entry))) }
+    ensures values { Gives TileFault.Memory (λ _. bytes_of values.new.items) so_far.new.values
+        (onward (λ _. bytes_of values.old.items) so_far.old.values (λ parts. after LAYER_VALUES parts_after parts (item_view item.entry))) }
+    ensures extent { Gives TileFault.Memory (λ n. n) so_far.new.extent
+        (onward (λ n. n) so_far.old.extent (λ n. after LAYER_EXTENT number_after n (item_view item.entry))) }
+    ensures version { Gives TileFault.Memory (λ n. n) so_far.new.version
+        (onward (λ n. n) so_far.old.version (λ n. after LAYER_VERSION number_after n (item_view item.entry))) }
+{
+    match item {
+        Ok(field) => match field.number {
+            LAYER_NAME => so_far.name = bytes_then(LAYER_NAME, so_far.name, item),
+            LAYER_FEATURES => {
+                so_far.features = parts_then(LAYER_FEATURES, so_far.features, features, item)
+            }
+            LAYER_KEYS => so_far.keys = parts_then(LAYER_KEYS, so_far.keys, keys, item),
+            LAYER_VALUES => so_far.values = parts_then(LAYER_VALUES, so_far.values, values, item),
+            LAYER_EXTENT => so_far.extent = number_then(LAYER_EXTENT, so_far.extent, item),
+            LAYER_VERSION => so_far.version = number_then(LAYER_VERSION, so_far.version, item),
+            _ => {}
+        },
+        Err(_) => *so_far = with_item(*so_far, features, keys, values, item),
+    }
+}
+
 /// The parts, if there was no fault.
 fn all_parts<'a>(
     read: Result<(), TileFault>,
@@ -104,7 +142,7 @@ pub(crate) fn layer_fields<'a>(alloc: Global, bytes: &'a [u8]) -> LayerFields<'a
         version: Ok(None),
     };
     for item in Fields::new(bytes) {
-        fields = with_item(fields, &mut features, &mut keys, &mut values, item);
+        add_item(&mut fields, &mut features, &mut keys, &mut values, item);
     }
     LayerFields {
         name: fields.name,

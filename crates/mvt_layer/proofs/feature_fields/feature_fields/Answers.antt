@@ -10,10 +10,10 @@ loop-item-preserved c =
     let others = fields_rest c.next.new.self in
     let first = c.in-Some.ensures.steps in
     let before = c.loop-item.fields in
-    let next = c.with_item-fields.result in
-    let added = c.with_item-fields.new in
+    let next = c.add_item.new.fields in
+    let added = c.add_item.new in
     let so_far = c.loop-item.invariant in
-    let stepped = c.with_item-fields.ensures in
+    let stepped = c.add_item.ensures in
     record {
       id = leads_on (λ n. n) (after 1 number_after) before.id next.id item left others _ first so_far.id stepped.id;
       kind = leads_on (λ n. n) (after 3 number_after) before.kind next.kind item left others _ first so_far.kind stepped.kind;

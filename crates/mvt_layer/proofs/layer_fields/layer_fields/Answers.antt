@@ -12,10 +12,10 @@ loop-item-preserved c =
     let others = fields_rest c.next.new.self in
     let first = c.in-Some.ensures.steps in
     let before = c.loop-item.fields in
-    let next = c.with_item-fields.result in
-    let added = c.with_item-fields.new in
+    let next = c.add_item.new.so_far in
+    let added = c.add_item.new in
     let so_far = c.loop-item.invariant in
-    let stepped = c.with_item-fields.ensures in
+    let stepped = c.add_item.ensures in
     record {
       name = leads_on (option_map (λ b. b.now)) (after 1 bytes_after) before.name next.name item left others _ first so_far.name stepped.name;
       features = leads_to (λ _. bytes_of c.loop-item.features.items) (λ _. bytes_of added.features.items) (after 2 parts_after) before.features next.features item left others _
