@@ -1,8 +1,9 @@
 -- Tiles that are checked part by part.
-use Rattle.std.proofs.Common.{◌≡◌, ℕ, true, false, List, [], ◌∷◌, ◌++◌, Result, Ok, Err, ◌⊎◌, inl, inr, refl, sym, subst, ◌∙◌}
+use Rattle.std.proofs.Common.{◌≡◌, ℕ, true, false, List, [], ◌∷◌, ◌++◌, Result, Ok, Err, ◌⊎◌, inl, inr, length, refl, sym, subst, ◌∙◌, arith}
 use Rattle.std.specs.Prelude.{◌≢◌, IsOk, IfOk, IfErr}
 use Rattle.std.specs.Option.{option_map}
-use Rattle.reader.proofs.Steps.{not_both, then_is}
+use Rattle.std.specs.Borrow.{Bor}
+use Rattle.reader.proofs.Steps.{not_both, then_is, then_stop, folded_on, folded_stop, folded_done}
 use Rattle.geometry_commands.proofs.Past.{ok_is}
 use Rattle.mvt_layer.specs.declared.fault.TileFault.{TileFault}
 use Rattle.mvt_layer.specs.declared.fault.TileFault.TheVariants as faults
@@ -12,7 +13,8 @@ use Rattle.mvt_layer.specs.Fields.{featured, layer_from}
 use Rattle.mvt_layer.specs.Faulty.{TileHas}
 use Rattle.mvt_layer.specs.Reads.{ReadsAs}
 use Rattle.mvt_layer.specs.Reading.{onward, feature_at, text_at, tag_value_at, each_in, name_at, version_at, extent_at, layer_made, layer_at, has_name}
-use Rattle.mvt_layer.specs.Reading.{layer_added, layer_more, tile_at}
+use Rattle.mvt_layer.specs.Reading.{layer_added, layer_more, layers_in, tile_at}
+use Rattle.mvt_layer.proofs.Folds.{part_at}
 use Rattle.mvt_layer.proofs.FieldLaws.{FieldsOf, layer_gives}
 use Rattle.mvt_layer.proofs.TileFaulty.{tile_has}
 use Rattle.mvt_layer.proofs.TileLaws.{tile_reads}
@@ -73,6 +75,22 @@ module _ (before : List LayerView) (part name : List ℕ) (l : LayerView) (e : l
   layer_twice there =
       let same : has_name before l.name ≡ true = subst (λ (n : List ℕ). has_name before n ≡ true) (sym is) there in
       then_is (layer_at part) (layer_added before) l (Err faults.LayerTwice) e (rw same refl)
+
+-- ---- tiles of one layer
+
+pub only_part : (raw : List (Bor (List ℕ))) → length raw ≡ 1 → bytes_of raw ≡ part_at raw 0 ∷ []
+only_part [] one = absurd (omega arith)
+only_part (p ∷ []) one = refl
+only_part (p ∷ q ∷ ps) one = absurd (omega arith)
+
+pub only_layer : (part : List ℕ) (l : LayerView) → layer_at part ≡ Ok l → layers_in (part ∷ []) ≡ Ok (l ∷ [])
+only_layer part l e =
+    folded_done layer_more (l ∷ []) [] (layers_in (part ∷ [])) refl
+    (folded_on layer_more [] (l ∷ []) part (part ∷ []) [] (layers_in (part ∷ [])) refl refl (layer_new [] part l.name l e refl refl))
+
+pub only_fault : (part : List ℕ) (d : TileFault) → layer_at part ≡ Err d → layers_in (part ∷ []) ≡ Err d
+only_fault part d e =
+    folded_stop layer_more [] part (part ∷ []) [] d (layers_in (part ∷ [])) refl refl (then_stop (layer_at part) (layer_added []) d e)
 
 -- ---- tiles
 

@@ -1,6 +1,6 @@
 //! Checks tiles without storing their features.
 
-ghost use Rattle.std.specs.Prelude.{◌≡◌, ◌≢◌, ℕ, [], List, Ok, Err, IsOk, IfOk, IfErr, OnOk};
+ghost use Rattle.std.specs.Prelude.{◌≡◌, ◌≢◌, ℕ, [], ◌∷◌, List, Ok, Err, IsOk, IfOk, IfErr, OnOk};
 ghost use Rattle.geometry_commands.specs.Decoding.{shape_at};
 ghost use Rattle.mvt_layer.specs.Faulty.{TileHas};
 ghost use Rattle.mvt_layer.specs.Reads.{ReadsAs};
@@ -164,6 +164,29 @@ fn check_layers<'a>(alloc: Global, raw: &[&'a [u8]]) -> Result<(), TileFault>
     Ok(())
 }
 
+/// Checks the only layer of a tile, whose name is unlike no other.
+fn check_only(alloc: Global, part: &[u8]) -> Result<(), TileFault>
+    ensures found { OnOk result (IsOk (layers_in (part.now ∷ []))) }
+    ensures fault { IfErr result (λ d. d ≢ TileFault.Memory → layers_in (part.now ∷ []) ≡ Err d) }
+{
+    match check_layer(alloc, part) {
+        Ok(_) => Ok(()),
+        Err(fault) => Err(fault),
+    }
+}
+
+/// Checks the layers that these parts encode, of different names. Most tiles of a small map have one.
+fn check_parts<'a>(alloc: Global, raw: &[&'a [u8]]) -> Result<(), TileFault>
+    ensures found { OnOk result (IsOk (layers_in (bytes_of raw.entry.now))) }
+    ensures fault { IfErr result (λ d. d ≢ TileFault.Memory → layers_in (bytes_of raw.entry.now) ≡ Err d) }
+{
+    if raw.len() == 1 {
+        check_only(alloc, raw[0])
+    } else {
+        check_layers(alloc, raw)
+    }
+}
+
 /// The same as `check_tile`, as the definitions read the tile.
 #[tactic(auto, unfolding(crate::specs::Reading::tile_at))]
 fn check_all<'a>(alloc: Global, bytes: &'a [u8]) -> Result<(), TileFault>
@@ -171,7 +194,7 @@ fn check_all<'a>(alloc: Global, bytes: &'a [u8]) -> Result<(), TileFault>
     ensures fault { IfErr result (λ d. d ≢ TileFault.Memory → tile_at bytes.entry.now ≡ Err d) }
 {
     let raw = parts(alloc, bytes, TILE_LAYERS)?;
-    check_layers(alloc, &raw)
+    check_parts(alloc, &raw)
 }
 
 /// Checks that the bytes are a tile, as `read_tile` does, without making its features.
