@@ -23,10 +23,6 @@ ok_is (Err d) ok = absurd (false≢true ok)
 pub is_ok : {Fault A : Type 0} (r : Read Fault A) (x : A) → r ≡ Ok x → IsOk r
 is_ok r x e = rw e refl
 
-pub ok_then : {Fault A B : Type 0} (r : Read Fault A) (f : A → B) → IsOk r → IsOk (r >>= λ x. Ok (f x))
-ok_then (Ok x) f ok = refl
-ok_then (Err d) f ok = absurd (false≢true ok)
-
 -- ---- what a function answers
 
 pub ok_on : {X F P Q : Type 0} (r : Result X F) → (P → Q) → OnOk r P → OnOk r Q
