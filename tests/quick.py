@@ -92,6 +92,7 @@ PARTS = [
     client("foreign"),
     client("wfs-hostile"),
     client("wfs-maps"),
+    client("told"),
     client("wfs-tables"),
     client("schema"),
     client("outsiders"),

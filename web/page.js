@@ -13,11 +13,14 @@ import { Server } from "./server.js";
 import { pointsOf } from "./shape.js";
 import { Style, isOutline, plain } from "./style.js";
 import { language, texts } from "./texts.js";
+import { Told } from "./told.js";
 import { View } from "./view.js";
 import { WORLD, bounds, distance, isInside } from "./world.js";
 
-// Seconds between two looks at the map, of those who edit and of those who don't: nginx keeps tiles for these.
-const BETWEEN_LOOKS = { editor: 4, viewer: 30 };
+// Seconds between two looks at the map, of those who edit, of those who are told of edits, and of those who don't edit: nginx keeps tiles for these.
+const BETWEEN_LOOKS = { editor: 4, told: 60, viewer: 30 };
+// Seconds after which it is tried again to be told of edits.
+const BETWEEN_TRIES = 60;
 // How many of the features that are found are listed.
 const MAX_FOUND = 50;
 // The time whose map is shown, as the address of the page says it, and what is known of that map; of the map of now null.
@@ -27,8 +30,10 @@ let server = new Server(BASE), past = null;
 let style, view, editor, drop, keys, here, print, history, layers;
 // Why this machine may not edit, as `Server.status` says it, or undefined; whether the first look is over; whether the last one got no answer.
 let refused, isBegun = false, isAway = false;
-// The next look.
-let next;
+// The next look, whether one is under way, and the edit that was told of meanwhile.
+let next, isLooking = false, missed = 0;
+// Who tells of edits, and when it was tried last to be told.
+let told, tried = -Infinity;
 // The feature that is selected, as a tile has it, and those that clicks at the same place have selected before.
 let selected = null, clicked = { at: [0, 0], ids: [] };
 
@@ -254,18 +259,54 @@ async function logIn() {
 
 /** Looks, and again after a while. */
 async function watch() {
+    isLooking = true;
     try {
         await (!isBegun ? arrive() : document.hidden || past || look());
     } catch (fault) {
         isAway = true;
         tell(isBegun ? fault.message : texts.asksAgain(fault.message), true);
     }
+    isLooking = false;
+    beTold();
     lookLater();
 }
 
 function lookLater() {
     clearTimeout(next);
-    next = setTimeout(watch, BETWEEN_LOOKS[isBegun && refused ? "viewer" : "editor"] * 1000);
+    const who = isBegun && refused ? "viewer" : told.isOpen && !isAway ? "told" : "editor";
+    next = setTimeout(watch, isBegun && missed > view.edit ? 0 : BETWEEN_LOOKS[who] * 1000);
+    missed = 0;
+}
+
+/** Begins to be told of edits, if the person may edit and sees the page. */
+async function beTold() {
+    if (!isBegun || refused || past || document.hidden || told.ending || performance.now() < tried + BETWEEN_TRIES * 1000) {
+        return;
+    }
+    tried = performance.now();
+    await told.begin() && lookLater();
+}
+
+/** Hears of an edit, or that nobody tells of edits any more: null. */
+function hear(edit) {
+    if (isLooking) {
+        missed = edit ?? missed;
+    } else if (edit === null || edit > view.edit || isAway) {
+        watch();
+    }
+}
+
+/** A page that comes into view again looks at once. One that nobody sees isn't told of edits. */
+function listenToView() {
+    document.addEventListener("visibilitychange", () => {
+        if (document.hidden) {
+            told.end();
+            lookLater();
+        } else if (isBegun && !isLooking) {
+            tried = -Infinity;
+            watch();
+        }
+    });
 }
 
 /** Finds the map of an earlier time, which is only looked at, and says in the page that it isn't that of now. Nothing works until it is there. */
@@ -314,7 +355,9 @@ async function start() {
     drop = new Drop(view, server, () => layers, editor.schema, showEdit);
     keys = new Keys(view, editor, select);
     Object.assign(byId("credit"), { textContent: style.backdrop?.credit ?? "", hidden: !style.backdrop?.credit });
+    told = new Told(BASE, hear);
     listen();
+    listenToView();
     await watch();
 }
 

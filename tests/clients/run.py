@@ -73,6 +73,7 @@ from clients.surveys import gdal  # noqa: E402
 from clients.takeover import takeover  # noqa: E402
 from clients.tellings import tellings  # noqa: E402
 from clients.three_ways import three_ways  # noqa: E402
+from clients.told import told  # noqa: E402
 from clients.toolbox import toolbox  # noqa: E402
 from clients.trail import trail  # noqa: E402
 from clients.tries import tries  # noqa: E402
@@ -124,6 +125,7 @@ def main():
         "wfs-deaths": wfs_deaths,
         "wfs-hostile": wfs_hostile,
         "wfs-maps": wfs_maps,
+        "told": told,
         "foreign": foreign,
         "wfs-random": wfs_random,
         "wfs-tables": wfs_tables,

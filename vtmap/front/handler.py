@@ -12,13 +12,13 @@ import os
 import re
 from typing import Any, NamedTuple
 
-from ..gateway.listener import HERE, MOST_BODY, PAUSE, READS, TEXT, Handler, Listener
+from ..gateway.listener import EVENT_STREAM, HERE, MOST_BODY, PAUSE, READS, TEXT, Handler, Listener
 from ..limits import GREATEST_ZOOM
 from ..limits import MOST_BODY as MOST_OF_MAP
 
 # What of a request vtserve gets, and the gateway; and what of a reply a client gets.
 FIELDS_OF_MAP = ("content-type", "range", "if-range", "if-match", "if-none-match")
-FIELDS_OF_GATEWAY = ("content-type", "accept-encoding", "if-none-match")
+FIELDS_OF_GATEWAY = ("content-type", "accept-encoding", "if-none-match", "origin", "sec-fetch-site")
 FIELDS_OF_REPLY = ("content-type", "content-length", "content-range", "content-encoding", "accept-ranges", "etag", "allow", "location",
                    "content-disposition", "content-security-policy", "x-content-type-options", "cross-origin-resource-policy")
 # Whose a path is. Edits are JSON: a page of another origin can make a browser send text or a form, but for JSON the browser asks first.
@@ -188,9 +188,12 @@ class FrontHandler(Handler):
     def pass_back(self, reply: http.client.HTTPResponse, more: list[tuple[str, str]]) -> None:
         """Passes a reply back."""
         caching = [("Cache-Control", "no-cache" if more else "no-store")]
+        # A stream of events has no length, and each part of it is passed on as it comes.
+        is_stream = reply.getheader("content-type") == EVENT_STREAM
+        self.close_connection = self.close_connection or is_stream
         self.head(reply.status, [*((name, value) for name, value in reply.getheaders() if name.lower() in FIELDS_OF_REPLY), *caching, *more])
         while self.command != "HEAD":
-            part = reply.read(CHUNK)
+            part = reply.read1(CHUNK) if is_stream else reply.read(CHUNK)
             if not part:
                 break
             self.wfile.write(part)

@@ -30,9 +30,11 @@ WFS, OGC = "/wfs", "/ogc"
 HISTORY = re.compile("/wfs/history/([0-9]{1,19})")
 # Where the schema is read, and where it gets more.
 SCHEMAS, SCHEMA = ("/wfs/schema.json", "/ogc/schema.json"), "/wfs/schema.json"
+# Where open pages are told of edits, and after how many seconds without one they are told that nothing has happened. How often they are told at most.
+EVENTS, HEARTBEAT, SELDOM = "/wfs/events", 15, 0.2
 # The methods of what is only read.
 READ = "GET, HEAD, OPTIONS"
-XML, TEXT = "text/xml; charset=utf-8", "text/plain; charset=utf-8"
+XML, TEXT, EVENT_STREAM = "text/xml; charset=utf-8", "text/plain; charset=utf-8", "text/event-stream"
 # The media types of a Transaction and of a schema, and the methods that change nothing.
 KINDS_OF_XML, KINDS_OF_JSON, READS = ("text/xml", "application/xml", "application/gml+xml"), ("application/json",), ("GET", "HEAD", "OPTIONS")
 HERE = "127.0.0.1"
@@ -106,8 +108,11 @@ class Handler(BaseHTTPRequestHandler):
     def is_foreign(self) -> bool:
         """Whether a page of another origin asks for a change. A browser names the origin of the page with such a request, other programs name none.
         The scheme isn't compared: a proxy may take https and pass on http. No page can send X-Forwarded-Host without the browser asking first."""
+        return self.command not in READS and self.is_of_other(self.headers.get_all("origin", []))
+
+    def is_of_other(self, origins: list[str]) -> bool:
+        """Whether one of these is another origin."""
         here = self.headers.get("x-forwarded-host", self.headers.get("host")).lower()
-        origins = [] if self.command in READS else self.headers.get_all("origin", [])
         return any(origin.lower() not in ("", f"http://{here}", f"https://{here}") for origin in origins)
 
     def handle_expect_100(self) -> bool:
@@ -123,6 +128,9 @@ class Handler(BaseHTTPRequestHandler):
             return
         if number := HISTORY.fullmatch(path):
             self.answer_history(int(number[1]))
+            return
+        if path == EVENTS:
+            self.answer_events()
             return
         if path.startswith(FILES):
             file_paths.answer(self, self.map.files, path, SAFETY)
@@ -197,6 +205,38 @@ class Handler(BaseHTTPRequestHandler):
         except OSError as fault:
             status, kind, text = 500, TEXT, f"the log of edits can't be read: {fault.strerror}"
         self.reply(status, text.encode(), kind)
+
+    # ---- edits, as they are made
+
+    def answer_events(self) -> None:
+        """Tells a page of each edit, as an event stream, until the page or the server is gone: its number alone, of several the last one. A page of
+        another origin isn't told: no reply lets it read this, but it would keep a thread."""
+        site = self.headers.get("sec-fetch-site", "same-origin")
+        if self.is_of_other(self.headers.get_all("origin", [])) or site not in ("same-origin", "none"):
+            self.refuse(403, "a page of another origin asks")
+        elif not self.map.events.enter():
+            self.refuse(503, "edits can't be told just now: ask for the last one")
+        else:
+            try:
+                self.tell_edits()
+            finally:
+                self.map.events.leave()
+
+    def tell_edits(self) -> None:
+        """Sends the event stream."""
+        self.close_connection = True
+        fields: Fields = [("Content-Type", EVENT_STREAM), ("Cache-Control", "no-store"), ("X-Accel-Buffering", "no"), *SAFETY]
+        told, last = -1, self.map.events.last
+        try:
+            self.connection.settimeout(PAUSE)
+            self.connection.sendall(self.head_of(200, fields))
+            while last is not None and self.command != "HEAD":
+                self.connection.sendall(b"data: %d\n\n" % last if last != told else b":\n\n")
+                told = last
+                time.sleep(SELDOM)
+                last = self.map.events.after(told, HEARTBEAT)
+        except OSError:
+            pass
 
     # ---- the schema
 

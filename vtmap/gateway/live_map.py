@@ -88,6 +88,14 @@ class LiveMap:
             if not edits or self.edits >= last:
                 return True
 
+    def take_edits(self, edits):
+        """Takes edits of the feed, the first of which is the one after the last that is known. Others, and very many, are left to the next look."""
+        with self.lock:
+            for edit in edits if self.edits is not None else ():
+                if edit["edit"] == self.edits + 1:
+                    self.take({number: body and json.loads(body) for number, body in changes_in(edit["changes"]).items()})
+                    self.edits = edit["edit"]
+
     def made(self, changes, number):
         """Takes own changes, which are the edit of a number. What others did before it is followed later, and then these changes again."""
         self.take({change.number: change.body and json.loads(change.body) for change in changes})

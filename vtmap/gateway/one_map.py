@@ -10,6 +10,7 @@ from ..faults import NoAnswer, Stopped
 from ..files.attachments import Attachments
 from ..files.map_schema import SchemaFile
 from ..files.save_log import SaveLog
+from .events import Events
 from .history import History
 from .live_map import LiveMap
 from .ogc_api import OgcApi
@@ -33,6 +34,7 @@ class OneMap:
         self.ogc = OgcApi(self.live, self.wfs.look, systems)
         self.files = Attachments(words.files) if words.files else None
         self.history = History(words.history, [*words.nginx, *([words.log] if words.log else [])])
+        self.events = Events(self.live)
         # How many requests are under way, and when the last one ended.
         self.requests, self.used, self.counting = 0, time.monotonic(), threading.Lock()
 
@@ -47,11 +49,14 @@ class OneMap:
         """One request more, or one less."""
         with self.counting:
             self.requests, self.used = self.requests + count, time.monotonic()
+        if count < 0 and self.live.edits is not None:
+            self.events.follow()
 
     def rest(self, idle: float) -> bool:
         """Gives up the memory of the map, if nobody has asked for so long. Returns whether nobody has."""
         with self.counting:
-            if self.requests or time.monotonic() < self.used + idle:
+            # A page that is told of edits needs none of the memory.
+            if self.requests > self.events.pages or time.monotonic() < self.used + idle:
                 return False
             if self.live.edits is not None:
                 self.live.forget()
@@ -60,6 +65,7 @@ class OneMap:
 
     def close(self) -> None:
         """Lets others have its files."""
+        self.events.close()
         self.log.close()
         self.live.client.close()
 
@@ -76,7 +82,9 @@ class OnlyMap:
 
     def entered(self, _path: str, _named: str | None) -> tuple[OneMap | None, str]:
         """The map that a request is for, which is under way from now on, and what its path has before that of the map."""
+        self.one.enter(1)
         return self.one, ""
 
     def leave(self, one: OneMap) -> None:
         """A request has its reply."""
+        one.enter(-1)
