@@ -92,6 +92,13 @@ class Disks(stand.InFolder):
             disk_file.moment_of(self.formatted(at2=root, at161=EXAMPLE, at3=HEAD, at4=removal)), ({}, 2, 0)
         )
 
+    def test_a_deletion_in_a_snapshot(self):
+        root = b"VTROOT01" + struct.pack("<5Q", 1, 1, 1, 9, 0)
+        path = self.formatted(at2=root, at161=bytes.fromhex("020700000000000000"))
+        with open(path, "rb") as file:
+            disk = disk_file.Disk(file.fileno())
+            self.assertRaises(disk_file.Damaged, disk.snapshot, disk.root())
+
     def test_the_tags_of_the_example(self):
         tags = bytes.fromhex("04" "016101010078" "016203feffffffffffffff" "0163020300000000000000" "016405")
         self.assertEqual(disk_file.Text(EXAMPLE[:-1] + tags).change(), (7, stand.feature(a="x", b=-2, c=3, d=True)))

@@ -343,6 +343,7 @@ class Wishes(unittest.TestCase):
             {"is_old": "perhaps"},
             {"minzoom": "9"},
             {"maxzoom": "20"},
+            {"maxzoom": {"points": [[0, 0]]}},
             {"feature_id": "8"},
             {"geom": None},
             {"name": "x" * 1025},

@@ -109,7 +109,7 @@ class SaveLog:
         self.sent[number] += 1
         self.write({"sent": number})
 
-    def finish(self, number: int, session: str, **told: object) -> None:
+    def finish(self, number: int, session: str | None, **told: object) -> None:
         """Notes that a save was done, and what the GIS has since."""
         self.write({"saved": number, "session": session, "time": int(time.time()), **told}, True)
         del self.begun[number]

@@ -1,10 +1,14 @@
 """What a Transaction of WFS asks: its XML, read. Needs no package."""
+from __future__ import annotations
+
 import re
 import xml.etree.ElementTree as tree
 from dataclasses import dataclass, field
+from typing import Dict, List, NoReturn, Optional, Union
 from xml.parsers import expat
 
 from ..files.geopackage import Unreadable
+from ..forms import Geometry
 from ..geometry.gml import geometry_of, local
 from .tables import signed
 
@@ -18,6 +22,10 @@ MOST_ELEMENTS, MOST_DEPTH = 1_000_000, 500
 ID = re.compile(r"""[^\s<>&"']+\.([0-9]{1,19})\.([0-9a-f]{16})([0-9a-f]{8})?(-[0-9]+)?""")
 
 
+# What is said of a property: a text, nothing, or a geometry.
+Said = Union[str, Geometry, None]
+
+
 @dataclass
 class Action:
     """What one element of a Transaction asks: `Insert`, `Update` or `Delete` of features of a type. `values` by the names of XML: a text, None or a
@@ -25,16 +33,19 @@ class Action:
 
     name: str
     type: str
-    fids: list = field(default_factory=list)
-    values: dict = field(default_factory=dict)
+    fids: List[str] = field(default_factory=list)
+    values: Dict[str, Said] = field(default_factory=dict)
 
 
 class Builder:
     """The elements of an XML text, as they are parsed. A document type, which may have entities of its own, is refused; so is too much, before it is
     in memory. A name keeps its prefix in place of the namespace: a long namespace would be in memory once for each name."""
 
-    def __init__(self):
-        self.root, self.open, self.count, self.last = None, [], 0, None
+    def __init__(self) -> None:
+        self.root: Optional[tree.Element] = None
+        self.open: List[tree.Element] = []
+        self.last: Optional[tree.Element] = None
+        self.count = 0
         self.parser = expat.ParserCreate()
         # A long text in few parts: each is added to those before it.
         self.parser.buffer_size, self.parser.buffer_text = 2 ** 20, True
@@ -43,11 +54,11 @@ class Builder:
         self.parser.CharacterDataHandler = self.text
 
     @staticmethod
-    def refuse(*_):
+    def refuse(*_: object) -> NoReturn:
         """Refuses a document type."""
         raise Unreadable("the request has a document type")
 
-    def begin(self, name, attributes):
+    def begin(self, name: str, attributes: dict[str, str]) -> None:
         """Begins an element."""
         self.count += 1 + len(attributes)
         if self.count > MOST_ELEMENTS:
@@ -62,11 +73,11 @@ class Builder:
         self.open.append(made)
         self.last = None
 
-    def end(self, _):
+    def end(self, _: str) -> None:
         """Ends an element."""
         self.last = self.open.pop()
 
-    def text(self, data):
+    def text(self, data: str) -> None:
         """Takes the text of an element, or what comes after one."""
         if self.last is not None:
             self.last.tail = (self.last.tail or "") + data
@@ -74,13 +85,13 @@ class Builder:
             self.open[-1].text = (self.open[-1].text or "") + data
 
 
-def named(name):
+def named(name: str) -> str:
     """A name with its prefix, as `local` reads it."""
     prefix, colon, own = name.partition(":")
     return f"{{{prefix}}}{own}" if colon else name
 
 
-def parsed(body):
+def parsed(body: bytes) -> tree.Element:
     """The root of an XML text."""
     builder = Builder()
     try:
@@ -88,10 +99,12 @@ def parsed(body):
     except (expat.ExpatError, ValueError, LookupError) as fault:
         # An encoding that isn't known is a LookupError.
         raise Unreadable(f"the request is no XML: {fault}") from fault
+    if builder.root is None:
+        raise Unreadable("the request has no element")
     return builder.root
 
 
-def actions_of(root):
+def actions_of(root: tree.Element) -> list[Action]:
     """The actions of a Transaction, in their order."""
     made = []
     for element in root:
@@ -106,19 +119,19 @@ def actions_of(root):
     return made
 
 
-def type_in(text):
+def type_in(text: str) -> str:
     """The name of a type without its namespace."""
     return text.strip().rpartition(":")[2]
 
 
-def inserted(feature):
+def inserted(feature: tree.Element) -> Action:
     """The action that adds a feature."""
     if len(feature) == 0 or local(feature) == "FeatureCollection":
         raise Unreadable("a feature to insert has no properties")
     return Action("Insert", local(feature), [], {local(child): value_of(child) for child in feature})
 
 
-def value_named(element):
+def value_named(element: tree.Element) -> tuple[str, Said]:
     """The name and the value of a property that an Update changes."""
     parts = {local(part): part for part in element}
     name = next((parts[one].text or "" for one in ("Name", "ValueReference") if one in parts), "")
@@ -128,7 +141,7 @@ def value_named(element):
     return name, value_of(parts["Value"]) if "Value" in parts else None
 
 
-def value_of(element):
+def value_of(element: tree.Element) -> Said:
     """The value of a property: a text, None if it has none, or a geometry."""
     if len(element):
         return geometry_of(element[0])
@@ -137,7 +150,7 @@ def value_of(element):
     return element.text
 
 
-def fids_of(element):
+def fids_of(element: tree.Element) -> list[str]:
     """The ids of features that the filter of an action names. An edit says which features it changes: no other filter is taken."""
     found = []
     for part in (part for child in element if local(child) == "Filter" for part in child.iter()):
@@ -149,18 +162,18 @@ def fids_of(element):
     return found
 
 
-def fids_in(element):
+def fids_in(element: tree.Element) -> list[str]:
     """The ids of features that an element of a filter has as its attributes."""
     return [value for key, value in element.attrib.items() if key.rpartition("}")[2] in ID_NAMES]
 
 
-def number_and_version(fid):
+def number_and_version(fid: str) -> tuple[int, str] | None:
     """The number of a feature and the version of it that an id names; None if it is no id of the gateway."""
     found = ID.fullmatch(fid)
-    return found and (int(found[1]), signed(found[2]))
+    return (int(found[1]), signed(found[2])) if found else None
 
 
-def is_given(fid):
+def is_given(fid: str) -> bool:
     """Whether the gateway has given an id: by its signature."""
     found = ID.fullmatch(fid)
     return found is not None and found[3] is not None and signed(found[2]) == found[2] + found[3]

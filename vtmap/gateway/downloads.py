@@ -1,13 +1,19 @@
 """Features as files to download: CSV for tables, and GeoPackage for a desktop GIS. Needs no package."""
+from __future__ import annotations
+
 import csv
 import io
 import os
 import tempfile
 import threading
+from typing import Any
 
 from ..files import geopackage
 from ..files.checkout_file import ZOOMS, cell_of
+from ..forms import Value
 from ..geometry.wholes import right_handed
+from .projections import System
+from .tables import Table, View
 
 CSV, GEOPACKAGE = "text/csv; charset=utf-8; header=present", "application/geopackage+sqlite3"
 WKT = {"Point": "POINT", "LineString": "LINESTRING", "Polygon": "POLYGON", "MultiPoint": "MULTIPOINT", "MultiLineString": "MULTILINESTRING",
@@ -16,7 +22,7 @@ WKT = {"Point": "POINT", "LineString": "LINESTRING", "Polygon": "POLYGON", "Mult
 TURN = threading.Lock()
 
 
-def csv_of(table, views, system):
+def csv_of(table: Table, views: list[View], system: System) -> bytes:
     """A table as CSV: ids, places, tags and zooms. Excel takes it for UTF-8 by its first letter."""
     is_point = table.kind == "points" and not table.is_several
     names = (["lon", "lat"] if system.digits == 8 else ["x", "y"]) if is_point else ["wkt"]
@@ -26,28 +32,32 @@ def csv_of(table, views, system):
         writer.writerow(["id", *names, *(tag for tag, _ in table.columns.values()), *ZOOMS])
         for view in views:
             geometry = system.geometry(right_handed(view.feature)["geometry"])
-            place = in_gis_order(geometry["coordinates"], system) if is_point else [wkt(geometry, system)]
+            place: list
+            if is_point:
+                place = in_gis_order(geometry["coordinates"], system)
+            else:
+                place = [wkt(geometry, system)]
             tags = view.feature["tags"]
             writer.writerow([view.number, *place, *(text_of(tags.get(tag)) for tag, _ in table.columns.values()), *(view.feature[zoom] for zoom in ZOOMS)])
         return ("\ufeff" + file.getvalue()).encode(errors="replace")
 
 
-def text_of(value):
+def text_of(value: Value | None) -> Value | None:
     """The value of a tag in CSV."""
     return ("true" if value else "false") if isinstance(value, bool) else value
 
 
-def in_gis_order(place, system):
+def in_gis_order(place: list[float], system: System) -> list[float]:
     """A place, east before north."""
     return place[::-1] if system.is_swapped else place
 
 
-def wkt(geometry, system):
+def wkt(geometry: dict[str, Any], system: System) -> str:
     """A geometry of GeoJSON as text, east before north."""
     return f"{WKT[geometry['type']]} {wkt_of(geometry['coordinates'], system)}"
 
 
-def wkt_of(parts, system):
+def wkt_of(parts: list, system: System) -> str:
     """The text of coordinates."""
     if not isinstance(parts[0], list):
         return f"({' '.join(map(str, in_gis_order(parts, system)))})"
@@ -55,7 +65,7 @@ def wkt_of(parts, system):
     return f"({', '.join(part[1:-1] if not isinstance(parts[0][0], list) else part for part in inner)})"
 
 
-def geopackage_of(table, views):
+def geopackage_of(table: Table, views: list[View]) -> bytes:
     """A table as a GeoPackage, in Web Mercator."""
     with TURN, tempfile.TemporaryDirectory() as folder:
         path = os.path.join(folder, "map.gpkg")

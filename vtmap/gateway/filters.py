@@ -1,19 +1,37 @@
 """Filters of WFS and boxes, as tests of features. Needs no package."""
+from __future__ import annotations
+
 import operator
 import re
+from collections.abc import Iterable
+from typing import TYPE_CHECKING, Any, Callable, Optional
+from xml.etree.ElementTree import Element
 
 from ..faults import Refused
 from ..geometry.gml import SYSTEM, local
+from ..geometry.shapes import Box
 from ..geometry.world import EARTH, WORLD
 from .actions import OF_IDS, fids_in, type_in
-from .tables import meets
+from .tables import Table, View, meets
 
-COMPARED = {"PropertyIsEqualTo": operator.eq, "PropertyIsNotEqualTo": operator.ne, "PropertyIsLessThan": operator.lt, "PropertyIsGreaterThan": operator.gt,
-            "PropertyIsLessThanOrEqualTo": operator.le, "PropertyIsGreaterThanOrEqualTo": operator.ge}
+if TYPE_CHECKING:
+    from .sessions import Session
+
+# What is asked of a feature, and of a value.
+Test = Callable[[View], bool]
+ValueTest = Callable[[Any], bool]
+COMPARED: dict[str, Callable[[Any, Any], bool]] = {
+    "PropertyIsEqualTo": operator.eq,
+    "PropertyIsNotEqualTo": operator.ne,
+    "PropertyIsLessThan": operator.lt,
+    "PropertyIsGreaterThan": operator.gt,
+    "PropertyIsLessThanOrEqualTo": operator.le,
+    "PropertyIsGreaterThanOrEqualTo": operator.ge,
+}
 NULLS, NAMES = ("PropertyIsNull", "PropertyIsNil"), ("PropertyName", "ValueReference")
 
 
-def box_of(text):
+def box_of(text: str | None) -> Box | None:
     """The box of the parameter BBOX in the units of the map; None without one."""
     if not text:
         return None
@@ -23,7 +41,7 @@ def box_of(text):
     return corners(numbers(parts[:4]))
 
 
-def numbers(parts):
+def numbers(parts: list[str]) -> list[float]:
     """Four coordinates."""
     try:
         found = [float(part) for part in parts]
@@ -34,13 +52,13 @@ def numbers(parts):
     return found
 
 
-def corners(metres):
+def corners(metres: Iterable[float]) -> Box:
     """The units of the map of a box in metres, which may reach beyond the world."""
     west, south, east, north = (min(max(part / EARTH, -0.5), 0.5) for part in metres)
     return (west + 0.5) * WORLD, (0.5 - north) * WORLD, (east + 0.5) * WORLD, (0.5 - south) * WORLD
 
 
-def test_of(element, table, session):
+def test_of(element: Element, table: Table, session: Session) -> Test:
     """What a filter asks of a feature, as a function of its view."""
     name = local(element)
     if name in ("Filter", "Or") and len(element) and all(local(child) in OF_IDS for child in element):
@@ -57,16 +75,17 @@ def test_of(element, table, session):
     if len(named) != 1 or test is None:
         # A GIS shows no feature then, and no reason.
         raise Refused(f"a filter with {name} isn't taken")
-    return lambda view: test(table.cell(view, named[0]))
+    known: ValueTest = test
+    return lambda view: known(table.cell(view, named[0]))
 
 
-def test_of_ids(fids, session):
+def test_of_ids(fids: Iterable[str], session: Session) -> Test:
     """Whether a feature has one of these ids."""
     wanted = {session.held(fid)[0] for fid in fids}
     return lambda view: view.number in wanted
 
 
-def joined_test(name, element, tests):
+def joined_test(name: str, element: Element, tests: list[Test]) -> Test:
     """A test that joins others."""
     if not tests:
         raise Refused(f"a filter with {name} of nothing isn't taken")
@@ -76,7 +95,7 @@ def joined_test(name, element, tests):
     return lambda view: some(test(view) for test in tests)
 
 
-def box_in(element):
+def box_in(element: Element) -> Box:
     """The box of an element of a filter."""
     found = [child.text or "" for child in element.iter() if local(child) in ("lowerCorner", "upperCorner")]
     if len(found) != 2:
@@ -84,7 +103,7 @@ def box_in(element):
     return corners(numbers(" ".join(found).split()))
 
 
-def value_test(name, element, literals):
+def value_test(name: str, element: Element, literals: list[str]) -> ValueTest | None:
     """What a comparison asks of a value, as a function of it; None if it isn't known. A value that isn't there meets none but the null tests."""
     if name in NULLS:
         return lambda value: value is None
@@ -98,11 +117,12 @@ def value_test(name, element, literals):
     return None
 
 
-def parts_of_like(element, literal):
+def parts_of_like(element: Element, literal: str) -> list[tuple[int, re.Pattern[str]]]:
     """What a PropertyIsLike has between its wildcards: the length and the regular expression of each part. In one expression of all, each wildcard
     would multiply the time by the length of the text."""
     wild, single = element.get("wildCard"), element.get("singleChar")
-    escape, made, letters = element.get("escapeChar", element.get("escape")), [[]], iter(literal)
+    escape, letters = element.get("escapeChar", element.get("escape")), iter(literal)
+    made: list[list[str]] = [[]]
     for letter in letters:
         if letter == escape:
             made[-1] += map(re.escape, next(letters, ""))
@@ -116,7 +136,7 @@ def parts_of_like(element, literal):
     return [(len(part), re.compile("".join(part), re.DOTALL | case)) for part in made]
 
 
-def is_like(parts, text):
+def is_like(parts: list[tuple[int, re.Pattern[str]]], text: str) -> bool:
     """Whether a text has these parts in their order: the first one at its beginning, the last one at its end, and each between them as soon as it
     comes."""
     (at, first), *others = parts
@@ -133,7 +153,7 @@ def is_like(parts, text):
     return at + length <= len(text) and bool(last.fullmatch(text, len(text) - length))
 
 
-def compared(how, value, literal):
+def compared(how: Callable[[Any, Any], bool], value: int | str, literal: str) -> bool:
     """Whether a value and the text of another compare so: as numbers if the value is one."""
     if isinstance(value, int):
         try:

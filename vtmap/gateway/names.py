@@ -3,7 +3,10 @@
 A name of XML says the name of the map by itself, so a project that was saved long ago still sends its edits to the right tag: `:` is `.`, a blank
 is `·`, and what XML doesn't allow is `_xHHHH_`.
 """
+from __future__ import annotations
+
 import re
+from collections.abc import Container
 
 START = "A-Z_a-z\u00c0-\u00d6\u00d8-\u00f6\u00f8-\u02ff\u0370-\u037d\u037f-\u1fff\u2070-\u218f\u2c00-\u2fef\u3001-\ud7ff\uf900-\ufdcf\ufdf0-\ufffd"
 FIRST, INNER = re.compile(f"[{START}]"), re.compile(f"[-0-9\u0300-\u036f{START}]")
@@ -13,7 +16,7 @@ READ = {to: of for of, to in WRITTEN.items()}
 CODED = re.compile("_x([0-9A-F]{4,6})_")
 
 
-def xml_name(text, taken=()):
+def xml_name(text: str, taken: Container[str] = ()) -> str:
     """A name of the map as a name of XML, none of `taken`: names differ by more than their case. `map_name` gives it back."""
     made = ""
     for place, part in enumerate(text):
@@ -22,12 +25,12 @@ def xml_name(text, taken=()):
     return coded(text[0]) + made[1:] if made.lower() in taken else made
 
 
-def coded(part):
+def coded(part: str) -> str:
     """A character by its number."""
     return f"_x{ord(part):04X}_"
 
 
-def map_name(name):
+def map_name(name: str) -> str:
     """The name of the map of which `xml_name` made this one."""
     parts = CODED.split(name)
     return "".join(chr(int(part, 16)) if at % 2 else "".join(READ.get(one, one) for one in part) for at, part in enumerate(parts))

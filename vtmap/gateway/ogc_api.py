@@ -1,23 +1,36 @@
 """The requests of OGC API Features (Part 1: Core, Part 2: coordinate systems), answered: whatever reads GeoJSON reads the map of now. Needs no package."""
+from __future__ import annotations
+
 import json
 import math
 import re
 import time
 import urllib.parse
+from collections.abc import Callable, Collection, Iterable, Mapping
+from typing import TYPE_CHECKING, Dict, List, Tuple, Union
 
 from ..faults import Refused
+from ..geometry.shapes import Box
 from ..geometry.wholes import right_handed
 from . import ogc_texts
 from .downloads import CSV, GEOPACKAGE, csv_of, geopackage_of
-from .ogc_texts import CRS, FORMAT, GEOJSON, JSON, MOST, OPENAPI, PARAMETERS, USUAL
-from .projections import Systems
-from .tables import meets, text_of
+from .ogc_texts import CRS, FORMAT, GEOJSON, JSON, MOST, OPENAPI, PARAMETERS, USUAL, Document
+from .projections import System, Systems
+from .tables import Table, View, meets, text_of
 
 # The formats, and those of a file of features to download.
 FORMATS, FILES = ("json", "geojson"), ("csv", "gpkg")
 # A time of RFC 3339, or an interval, which may be open.
 TIME = r"[0-9]{4}-[0-9]{2}-[0-9]{2}([Tt][0-9]{2}:[0-9]{2}:[0-9]{2}(\.[0-9]+)?([Zz]|[-+][0-9]{2}:[0-9]{2}))?"
 TIMES = re.compile(rf"{TIME}|({TIME}|\.\.)?/({TIME}|\.\.)?|\.\.")
+
+
+if TYPE_CHECKING:
+    from .live_map import LiveMap
+
+# The parameters of a request, and further fields of its reply.
+Given = Dict[str, str]
+Fields = List[Tuple[str, str]]
 
 
 class Unknown(Refused):
@@ -27,17 +40,18 @@ class Unknown(Refused):
 class OgcApi:
     """The OGC API of a live map. `look`: takes what others have changed."""
 
-    def __init__(self, live, look, systems=None):
+    def __init__(self, live: LiveMap, look: Callable[[], object], systems: Systems | None = None) -> None:
         self.live, self.look, self.systems = live, look, systems or Systems()
 
-    def answer(self, path, given, address):
+    def answer(self, path: str, given: Given, address: str) -> tuple[str, bytes, Fields]:
         """The media type, the content and further fields of the reply to a request. `path`: what comes after the address."""
         with self.live.lock:
             self.look()
             tables = self.live.tables()
         # Tables and views stay as they are: others go on while the reply is made.
         parts = [urllib.parse.unquote(part) for part in path.strip("/").split("/")] if path.strip("/") else []
-        fields = []
+        fields: Fields = []
+        found: Document | bytes
         if parts[:1] == ["collections"] and 2 <= len(parts) <= 4:
             kind, found, fields = self.collection(parts[1:], tables, given, address)
         else:
@@ -45,7 +59,9 @@ class OgcApi:
             see_names(given, ())
         return kind, found if isinstance(found, bytes) else json.dumps(found, ensure_ascii=False, separators=(",", ":")).encode(), fields
 
-    def collection(self, parts, tables, given, address):
+    def collection(
+        self, parts: list[str], tables: Mapping[str, Table], given: Given, address: str
+    ) -> tuple[str, Document | bytes, Fields]:
         """The reply about a collection, its features, or one of them."""
         table = tables.get(parts[0])
         if table is None:
@@ -66,7 +82,7 @@ class OgcApi:
             return download(table, given, system, box_system)
         return GEOJSON, items(table, given, here, system, box_system), fields
 
-    def item(self, table, text, here, system):
+    def item(self, table: Table, text: str, here: str, system: System) -> Document:
         """One feature."""
         with self.live.lock:
             view = self.live.views.get(int(text)) if re.fullmatch("[0-9]{1,19}", text) else None
@@ -76,7 +92,7 @@ class OgcApi:
         return {**geojson(view, system), "links": links}
 
 
-def whole(parts, tables, address, systems):
+def whole(parts: list[str], tables: Iterable[Table], address: str, systems: list[str]) -> tuple[str, Document]:
     """The reply about all of it."""
     if not parts:
         return JSON, ogc_texts.landing(address)
@@ -89,7 +105,7 @@ def whole(parts, tables, address, systems):
     raise Unknown("no such path")
 
 
-def chosen(table, given, box_system):
+def chosen(table: Table, given: Given, box_system: System) -> list[View]:
     """The features that a request asks for, in the order of their ids."""
     see_names(given, [*PARAMETERS, *(tag for tag, _ in table.columns.values())], (*FORMATS, *FILES))
     boxes = boxes_of(given.get("bbox"), box_system)
@@ -98,7 +114,7 @@ def chosen(table, given, box_system):
     return [view for view in table.views if is_asked(view, table, boxes, given)]
 
 
-def download(table, given, system, box_system):
+def download(table: Table, given: Given, system: System, box_system: System) -> tuple[str, bytes, Fields]:
     """All features that a request asks for, as a file."""
     found, form = chosen(table, given, box_system), given["f"]
     if form == "gpkg" and "crs" in given:
@@ -107,7 +123,7 @@ def download(table, given, system, box_system):
     return (CSV, csv_of(table, found, system), fields) if form == "csv" else (GEOPACKAGE, geopackage_of(table, found), fields)
 
 
-def items(table, given, here, system, box_system):
+def items(table: Table, given: Given, here: str, system: System, box_system: System) -> Document:
     """A page of features. The next one begins after the last id, so no feature is listed twice while others edit."""
     found = chosen(table, given, box_system)
     after, limit = number_of(given, "after", 0), min(number_of(given, "limit", USUAL), MOST)
@@ -125,7 +141,7 @@ def items(table, given, here, system, box_system):
             "numberReturned": len(page), "timeStamp": time.strftime("%Y-%m-%dT%H:%M:%SZ", time.gmtime())}
 
 
-def is_asked(view, table, boxes, given):
+def is_asked(view: View, table: Table, boxes: list[Box], given: Given) -> bool:
     """Whether a feature is in one of the boxes, if there are any, and has the values that a request asks for."""
     if boxes and not any(meets(view.box, box) for box in boxes):
         return False
@@ -133,12 +149,12 @@ def is_asked(view, table, boxes, given):
     return all(text_of(tags.get(tag), form) == given[tag] for tag, form in table.columns.values() if tag in given and tag not in PARAMETERS)
 
 
-def with_query(here, given):
+def with_query(here: str, given: Given) -> str:
     """The address of features with these parameters."""
     return f"{here}/items" + (f"?{urllib.parse.urlencode(given)}" if given else "")
 
 
-def see_names(given, names, formats=FORMATS):
+def see_names(given: Given, names: Collection[str], formats: Collection[str] = FORMATS) -> None:
     """Refuses parameters that a path doesn't have, and formats that there aren't."""
     wrong = [name for name in given if name not in (*names, *FORMAT)]
     if wrong:
@@ -147,7 +163,7 @@ def see_names(given, names, formats=FORMATS):
         raise Refused(f"there is no format {given['f']}, but {', '.join(formats)}")
 
 
-def number_of(given, name, usual):
+def number_of(given: Given, name: str, usual: int) -> int:
     """The number that a parameter has."""
     text = given.get(name, str(usual))
     if not re.fullmatch("[0-9]{1,19}", text):
@@ -155,7 +171,7 @@ def number_of(given, name, usual):
     return int(text)
 
 
-def boxes_of(text, system):
+def boxes_of(text: str | None, system: System) -> list[Box]:
     """The boxes of the map that the parameter bbox has, in a system."""
     if text is None:
         return []
@@ -170,7 +186,7 @@ def boxes_of(text, system):
     return system.box(parts)
 
 
-def geojson(view, system):
+def geojson(view: View, system: System) -> Document:
     """A feature, its rings in the directions of GeoJSON."""
     feature = right_handed(view.feature)
     rest = {name: feature[name] for name in ("layer", "minzoom", "maxzoom")}

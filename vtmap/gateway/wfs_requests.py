@@ -1,13 +1,18 @@
 """What a request of WFS asks, by its parameters or by its XML. Needs no package."""
+from __future__ import annotations
+
 import re
+from collections.abc import Collection, Mapping
+from typing import Any, Dict
+from xml.etree.ElementTree import Element
 
 from ..faults import Refused
 from ..files.checkout_file import ZOOMS
 from ..geometry.gml import local
 from .actions import type_in
 from .filters import NAMES
-from .tables import ID, SHAPE
-from .wfs_texts import V1, V2, VERSIONS
+from .tables import ID, SHAPE, Table, View
+from .wfs_texts import V1, V2, VERSIONS, Version
 
 CAPABILITIES, SCHEMA, FEATURES, VALUES = "getcapabilities", "describefeaturetype", "getfeature", "getpropertyvalue"
 LISTED, DESCRIBED = "liststoredqueries", "describestoredqueries"
@@ -19,6 +24,8 @@ BY_ID_NAMES = (BY_ID, "http://www.opengis.net/def/query/OGC-WFS/0/GetFeatureById
 # Formats by the versions, without blanks and plus signs, which a query turns into blanks.
 FORMATS = {V2: ("application/gmlxml;version=3.2", "text/xml;subtype=gml/3.2", "text/xml;subtype=gml/3.2.1", "text/xml", "gml32"),
            V1: ("text/xml;subtype=gml/3.1.1", "text/xml", "gml3", "gml31", "xmlschema")}
+# The parameters of a request, or of a query of it: texts, and the filter of XML.
+Given = Dict[str, Any]
 # The most queries of a request, and the most properties by which features are sorted.
 MOST_QUERIES, MOST_SORTS = 50, 10
 DOWN = {"A": False, "ASC": False, "D": True, "DESC": True}
@@ -31,26 +38,26 @@ OF_QUERY = {"typeName": "typename", "typeNames": "typenames", "srsName": "srsnam
 class Invalid(Refused):
     """Why a request isn't answered: with the code that the standard has for it, and the parameter that it is about."""
 
-    def __init__(self, code, locator, text):
+    def __init__(self, code: str, locator: str, text: str) -> None:
         super().__init__(text)
         self.code, self.locator = code, locator
 
 
-def invalid(locator, text):
+def invalid(locator: str, text: str) -> Invalid:
     """A parameter has a value that isn't taken."""
     return Invalid("InvalidParameterValue", locator, text)
 
 
 # ---- versions
 
-def numbers_of(version):
+def numbers_of(version: str) -> list[int]:
     """The parts of a version's number."""
     if not re.fullmatch(r"[0-9]{1,3}(\.[0-9]{1,3}){0,2}", version):
         raise invalid("version", f"{version} is no version")
     return [int(part) for part in version.split(".")]
 
 
-def version_of(given):
+def version_of(given: Given) -> Version:
     """The version of a reply. A client that asks what there is may name several that it takes, the first one first; as in WFS 1 one alone stands for
     the greatest one that isn't above it."""
     request, asked, taken = given.get("request", "").lower(), given.get("version"), given.get("acceptversions")
@@ -69,7 +76,7 @@ def version_of(given):
     return VERSIONS[max(below, key=numbers_of) if below else min(VERSIONS, key=numbers_of)]
 
 
-def request_of(given, version):
+def request_of(given: Given, version: Version) -> str:
     """Which request it is, in small letters."""
     request = given.get("request", "")
     if not request:
@@ -81,7 +88,7 @@ def request_of(given, version):
     return request.lower()
 
 
-def see_format(text, version):
+def see_format(text: str | None, version: Version) -> None:
     """Refuses formats in which nothing is written."""
     if text and re.sub(r"[\s+]", "", text).lower() not in FORMATS[version]:
         raise invalid("outputFormat", f"OUTPUTFORMAT {text} isn't written: {version.format} is")
@@ -89,7 +96,7 @@ def see_format(text, version):
 
 # ---- XML
 
-def given_in(root):
+def given_in(root: Element) -> tuple[Given, list[Given]]:
     """The parameters that a request by XML has, and those of each of its queries."""
     given, queries = {"request": local(root), **attributes(root, OF_REQUEST)}, []
     lists = {"AcceptVersions": "acceptversions", "TypeName": "typename", "StoredQueryId": "storedquery_id"}
@@ -105,12 +112,12 @@ def given_in(root):
     return given, queries
 
 
-def attributes(element, names):
+def attributes(element: Element, names: Mapping[str, str]) -> Given:
     """The attributes of an element by the names of parameters."""
     return {to: element.get(of) for of, to in names.items() if element.get(of) is not None}
 
 
-def query_in(element):
+def query_in(element: Element) -> Given:
     """The parameters of a query."""
     given = attributes(element, OF_QUERY)
     if "typenames" in given:
@@ -127,25 +134,25 @@ def query_in(element):
     return given
 
 
-def sorted_by(element):
+def sorted_by(element: Element) -> str:
     """What an element says by which features are sorted, as the parameter says it."""
     said = {local(child): (child.text or "").strip() for child in element}
     return f"{next((said[name] for name in NAMES if name in said), '')} {said.get('SortOrder', 'ASC')}"
 
 
-def stored_in(element):
+def stored_in(element: Element) -> Given:
     """The parameters of a stored query."""
     return {"storedquery_id": element.get("id", ""), **{child.get("name", "").lower(): child.text or "" for child in element}}
 
 
 # ---- columns
 
-def name_in(text):
+def name_in(text: str) -> str:
     """The name of a column that a text says."""
     return type_in(text.strip().split("/")[-1])
 
 
-def columns_in(text, tables):
+def columns_in(text: str | None, tables: Collection[Table]) -> dict[str, frozenset[str] | None]:
     """The columns that are asked for of each table, by its name: None for all. Of several tables each may have a list of its own, in parentheses."""
     lists = re.findall(r"\(([^()]*)\)", text) if text and text.startswith("(") else [text or ""]
     if len(lists) not in (1, len(tables)):
@@ -153,7 +160,7 @@ def columns_in(text, tables):
     return {table.name: columns_of(lists[at] if len(lists) > 1 else lists[0], table) for at, table in enumerate(tables)}
 
 
-def columns_of(text, table):
+def columns_of(text: str, table: Table) -> frozenset[str] | None:
     """The columns of a table that a list names; None for all."""
     names = [name_in(part) for part in text.split(",") if part.strip()]
     if not names or "*" in names:
@@ -163,13 +170,13 @@ def columns_of(text, table):
     return frozenset(names)
 
 
-def see_column(name, table, locator):
+def see_column(name: str, table: Table, locator: str) -> None:
     """Refuses a column that a table doesn't have."""
     if name not in (SHAPE, ID, *table.columns, *ZOOMS):
         raise invalid(locator, f"{table.name} has no property {name}")
 
 
-def in_order(views, text, table):
+def in_order(views: list[View], text: str | None, table: Table) -> list[View]:
     """Views of a table, sorted as the parameter SORTBY says: what has no value comes last. Equal ones stay in the order of their ids."""
     parts = [part.split() for part in re.split(r"[,()]", text or "") if part.strip()]
     if len(parts) > MOST_SORTS:
@@ -179,7 +186,7 @@ def in_order(views, text, table):
         see_column(name, table, "sortBy")
         if name == SHAPE or order not in DOWN or len(part) > 2:
             raise invalid("sortBy", f"SORTBY {' '.join(part)} isn't taken: a property and ASC or DESC are")
-        cells = {view.number: table.cell(view, name) for view in views}
+        cells: dict[int, Any] = {view.number: table.cell(view, name) for view in views}
         there = sorted((view for view in views if cells[view.number] is not None), key=lambda view: cells[view.number], reverse=DOWN[order])
         views = there + [view for view in views if cells[view.number] is None]
     return views

@@ -1,12 +1,15 @@
 """The texts of WFS 2.0.0 and 1.1.0: capabilities, schemas, features, reports, and the replies to Transactions. Needs no package."""
+from __future__ import annotations
+
 import time
-from collections import namedtuple
+from collections.abc import Container, Iterable, Mapping, Sequence
+from typing import NamedTuple, Tuple
 
 from ..files.checkout_file import ZOOMS
 from ..geometry.gml import gml_of
 from ..geometry.world import WORLD, degrees
-from ..markup import Frame, document, element
-from .tables import ID, SHAPE, text_of
+from ..markup import Frame, Xml, document, element
+from .tables import ID, SHAPE, Table, View, text_of
 
 SPACE, TITLE = "urn:vtserve", "The feature of an id"
 OPERATIONS = ("GetCapabilities", "DescribeFeatureType", "GetFeature", "Transaction")
@@ -17,9 +20,28 @@ FORMS = {"TEXT": "xsd:string", "INTEGER": "xsd:long", "BOOLEAN": "xsd:boolean"}
 SHAPES = {"points": ("PointPropertyType", "MultiPointPropertyType"), "lines": ("CurvePropertyType", "MultiCurvePropertyType"),
           "polygons": ("SurfacePropertyType", "MultiSurfacePropertyType")}
 
-# What a version says otherwise than another: namespaces, the name of EPSG:3857, of the element that names it, of the format and of its schema, of
-# what a feature substitutes, and of an id in a filter with its attribute.
-Version = namedtuple("Version", "name wfs filter ows gml system system_element format schema feature id_element id_name")
+# A feature with its table.
+Found = Tuple[Table, View]
+
+
+class Version(NamedTuple):
+    """What a version says otherwise than another: namespaces, the name of EPSG:3857, of the element that names it, of
+    the format and of its schema, of what a feature substitutes, and of an id in a filter with its attribute."""
+
+    name: str
+    wfs: str
+    filter: str
+    ows: str
+    gml: str
+    system: str
+    system_element: str
+    format: str
+    schema: str
+    feature: str
+    id_element: str
+    id_name: str
+
+
 V2 = Version("2.0.0", "http://www.opengis.net/wfs/2.0", "http://www.opengis.net/fes/2.0", "http://www.opengis.net/ows/1.1", "http://www.opengis.net/gml/3.2",
              "urn:ogc:def:crs:EPSG::3857", "CRS", "application/gml+xml; version=3.2", "3.2.1", "AbstractFeature", "ResourceId", "rid")
 V1 = Version("1.1.0", "http://www.opengis.net/wfs", "http://www.opengis.net/ogc", "http://www.opengis.net/ows", "http://www.opengis.net/gml",
@@ -29,12 +51,12 @@ VERSIONS = {version.name: version for version in (V2, V1)}
 OLD = "1.0.0"
 
 
-def chosen(names):
+def chosen(names: str) -> Version:
     """The first of these versions that is known; 1.1.0 if none is."""
     return next((VERSIONS[name.strip()] for name in names.split(",") if name.strip() in VERSIONS), V1)
 
 
-def spaces(version):
+def spaces(version: Version) -> dict[str, str]:
     """The namespaces of a document."""
     return {"xmlns:wfs": version.wfs, "xmlns:ogc": version.filter, "xmlns:ows": version.ows, "xmlns:gml": version.gml, "xmlns:v": SPACE,
             "xmlns:xlink": "http://www.w3.org/1999/xlink"}
@@ -42,7 +64,7 @@ def spaces(version):
 
 # ---- capabilities
 
-def capabilities(version, tables, address):
+def capabilities(version: Version, tables: Iterable[Table], address: str) -> str:
     """What there is, and at which address it is asked for."""
     service = element("ows:ServiceIdentification", element("ows:Title", "vtserve"), element("ows:ServiceType", "WFS"),
                       element("ows:ServiceTypeVersion", version.name))
@@ -57,7 +79,7 @@ def capabilities(version, tables, address):
     return document(element("wfs:WFS_Capabilities", service, operations, listed, can, version=version.name, **spaces(version)))
 
 
-def operation(version, name, address):
+def operation(version: Version, name: str, address: str) -> Xml:
     """How an operation is asked for."""
     words = [parameter(version, "AcceptVersions", list(VERSIONS))] if name == "GetCapabilities" else []
     words += [parameter(version, "outputFormat", [version.format])] if name in ("GetFeature", "DescribeFeatureType") else []
@@ -66,18 +88,18 @@ def operation(version, name, address):
     return element("ows:Operation", element("ows:DCP", element("ows:HTTP", *ways)), *words, name=name)
 
 
-def parameter(version, name, values):
+def parameter(version: Version, name: str, values: Iterable[str]) -> Xml:
     """The values that a parameter may have."""
     made = [element("ows:Value", value) for value in values]
     return element("ows:Parameter", *([element("ows:AllowedValues", *made)] if version is V2 else made), name=name)
 
 
-def constraints():
+def constraints() -> list[Xml]:
     """What of WFS 2 there is."""
     return [element("ows:Constraint", element("ows:NoValues"), element("ows:DefaultValue", str(value).upper()), name=name) for name, value in TRUTHS.items()]
 
 
-def table_of(version, table):
+def table_of(version: Version, table: Table) -> Xml:
     """What is said of a table."""
     west, north, east, south = table.box or (0, 0, WORLD - 1, WORLD - 1)
     low, high = degrees((west, south)), degrees((east, north))
@@ -87,7 +109,7 @@ def table_of(version, table):
                    element(f"wfs:Default{version.system_element}", version.system), box)
 
 
-def schema(version, tables):
+def schema(version: Version, tables: Iterable[Table]) -> str:
     """The columns of tables."""
     made = [element("xsd:import", namespace=version.gml, schemaLocation=f"http://schemas.opengis.net/gml/{version.schema}/gml.xsd")]
     for table in tables:
@@ -103,33 +125,40 @@ def schema(version, tables):
 
 # ---- features
 
-def features(version, found, fids, matched, wanted=None):
+def features(
+    version: Version,
+    found: Sequence[Found],
+    fids: Sequence[str],
+    matched: int,
+    wanted: Mapping[str, Container[str] | None] | None = None,
+) -> str:
     """Features: pairs of table and view, and their ids. `matched`: how many there are with those that aren't returned. `wanted`: which columns of each
     table are written, by its name; None for all."""
     counts = {"numberMatched": matched, "numberReturned": len(found)} if version is V2 else {"numberOfFeatures": len(found) or matched}
-    whole = "wfs:FeatureCollection", {**spaces(version), "timeStamp": now(), **counts}
+    attributes: dict[str, object] = {**spaces(version), "timeStamp": now()}
+    whole = "wfs:FeatureCollection", {**attributes, **counts}
     rows = {table.name: Rows(version, table, (wanted or {}).get(table.name)) for table in {table.name: table for table, _ in found}.values()}
     members = [rows[table.name].member(view, fid) for (table, view), fid in zip(found, fids)]
     return Frame(whole, *(["gml:featureMembers"] if members and version is V1 else [])).document(members)
 
 
-def now():
+def now() -> str:
     """The time, as replies have it."""
     return time.strftime("%Y-%m-%dT%H:%M:%SZ", time.gmtime())
 
 
-def feature(version, table, view, fid):
+def feature(version: Version, table: Table, view: View, fid: str) -> str:
     """One feature, without a collection around it."""
     return document(element(f"v:{table.name}", *Rows(version, table).columns(view), **{"gml:id": fid}, **spaces(version)))
 
 
-def cells(found, name):
+def cells(found: Iterable[Found], name: str) -> list[Xml]:
     """The values of a column of features, each as an element; of those that have one."""
     made = [Rows(V2, table, frozenset([name])).columns(view) for table, view in found]
     return [cell for columns in made for cell in columns]
 
 
-def values(parts, matched):
+def values(parts: Sequence[object], matched: int) -> str:
     """Values of a property: elements, or texts."""
     members = [element("wfs:member", part) for part in parts]
     return Frame(("wfs:ValueCollection", {**spaces(V2), "timeStamp": now(), "numberMatched": matched, "numberReturned": len(parts)})).document(members)
@@ -138,14 +167,14 @@ def values(parts, matched):
 class Rows:
     """How the features of a table are written: as members of a collection of a version. `wanted`: which columns, None for all."""
 
-    def __init__(self, version, table, wanted=None):
+    def __init__(self, version: Version, table: Table, wanted: Container[str] | None = None) -> None:
         self.version, self.table, self.wanted, self.key = version, table, wanted, (version.name, table.form)
         self.shape, self.number = Frame(f"v:{SHAPE}"), Frame(f"v:{ID}")
         self.tags = [(tag, form, Frame(f"v:{name}")) for name, (tag, form) in table.columns.items() if self.has(name)]
         self.zooms = [(zoom, Frame(f"v:{zoom}")) for zoom in ZOOMS if self.has(zoom)]
         self.name, self.around = f"v:{table.name}", Frame(*(["wfs:member"] if version is V2 else []))
 
-    def member(self, view, fid):
+    def member(self, view: View, fid: str) -> str:
         """A feature. It is written once for all who have it under the same id."""
         if self.wanted is not None:
             return self.around.of(element(self.name, *self.columns(view), **{"gml:id": fid}))
@@ -156,7 +185,7 @@ class Rows:
             view.written = (self.key, fid), written
         return written
 
-    def columns(self, view):
+    def columns(self, view: View) -> list[Xml]:
         """The columns of a feature."""
         tags = view.feature["tags"]
         made = [self.shape.of(gml_of(view.feature["geometry"], self.table.is_several, self.version.system))] if self.has(SHAPE) else []
@@ -167,21 +196,21 @@ class Rows:
                 made.append(frame.of(text))
         return made + [frame.of(view.feature[zoom]) for zoom, frame in self.zooms]
 
-    def has(self, name):
+    def has(self, name: str) -> bool:
         """Whether a column is written."""
         return self.wanted is None or name in self.wanted
 
 
 # ---- stored queries
 
-def stored_queries(name, tables):
+def stored_queries(name: str, tables: Iterable[Table]) -> str:
     """The list of the one stored query, and what it may return."""
     types = [element("wfs:ReturnFeatureType", f"v:{table.name}") for table in tables] or [element("wfs:ReturnFeatureType")]
     query = element("wfs:StoredQuery", element("wfs:Title", TITLE), *types, id=name)
     return document(element("wfs:ListStoredQueriesResponse", query, **spaces(V2)))
 
 
-def described_queries(name):
+def described_queries(name: str) -> str:
     """What the one stored query asks for."""
     text = element("wfs:QueryExpressionText", returnFeatureTypes="", language="urn:ogc:def:queryLanguage:OGC-WFS::WFSQueryExpression", isPrivate="true")
     query = element("wfs:StoredQueryDescription", element("wfs:Title", TITLE), element("wfs:Parameter", name="ID", type="xsd:string"), text, id=name)
@@ -190,19 +219,19 @@ def described_queries(name):
 
 # ---- reports
 
-def refused(version, code, fault):
+def refused(version: Version, code: str, fault: BaseException) -> str:
     """Why a request isn't answered. A fault may know its code, and the parameter that it is about."""
     return report(version, getattr(fault, "code", code), str(fault), getattr(fault, "locator", None))
 
 
-def report(version, code, text, locator=None):
+def report(version: Version, code: str, text: str, locator: str | None = None) -> str:
     """Why something isn't done."""
     about = {"locator": locator} if locator else {}
     told = element("ows:Exception", element("ows:ExceptionText", text), exceptionCode=code, **about)
     return document(element("ows:ExceptionReport", told, version=version.name, **{"xmlns:ows": version.ows}))
 
 
-def transacted(name, counts, fids):
+def transacted(name: str, counts: Mapping[str, int], fids: Sequence[str]) -> str:
     """The reply to a Transaction of a version."""
     if name == OLD:
         ids = [element("wfs:InsertResult", *[element("ogc:FeatureId", fid=fid) for fid in fids])] if fids else []
