@@ -265,6 +265,123 @@ def all_maps(cases, here, url):
         cases.show("maps: a watch of no map", (child.returncode, child.stdout), (0, "0 maps: nothing to do\n"))
 
 
+# The maps that are there.
+NAMES = ["east", "north", "south"]
+
+
+def logged(here, name):
+    """The numbers of the edits in the log of a map, None if there is none."""
+    path = here.path("var/lib/vtserve-log", name, "edits.jsonl")
+    if not os.path.exists(path):
+        return None
+    with open(path, encoding="utf-8") as file:
+        return [row["edit"] for row in map(json.loads, file) if "edit" in row]
+
+
+def followed(cases, here, folder):
+    """One process that follows all maps: a standby of another machine's map, and logs of the others."""
+    words = ["follow", "--maps", "--log", here.path("var/lib/vtserve-log/{map}/edits.jsonl")]
+    wrong = [
+        ["follow", "--maps"],
+        [*words[:3], "edits.jsonl"],
+        [*words, "--run", "true"],
+        [*words, "--to", "http://127.0.0.1:{port}"],
+        [*words, "--to", "http://127.0.0.1:1", "--url", "http://127.0.0.1/{map}"],
+    ]
+    found = [here.vtmap(*line)[0] for line in wrong]
+    cases.show("maps: follow --maps: words that can't be meant", found, [2] * len(wrong))
+    code, lines = here.vtmap(*words, "--once")
+    cases.show(
+        "maps: the log of each is begun",
+        (code, sorted(line.split(":")[0] for line in lines), [logged(here, name) for name in NAMES]),
+        (0, NAMES, [[], [], []]),
+    )
+    with Server(folder, "first.disk", 4096) as first:
+        here.add("west")
+        with open(here.path("etc/vtserve/maps/west"), encoding="utf-8") as file:
+            port = next(line for line in file if line.startswith("PORT=")).strip()[5:]
+        url = f"http://127.0.0.1:{port}"
+        answered(url + "/admin/status")
+        closed = here.path("etc/vtserve/nginx-maps/closed.conf")
+        with open(closed, "w", encoding="utf-8") as file:
+            file.write('"~^west (POST|PUT|DELETE|PATCH)$" 1;\n')
+        # A name in the address, which a server ignores, is another one for each map.
+        words += ["--url", f"http://{{map}}:x@127.0.0.1:{first.port}", "--to", "http://127.0.0.1:{port}"]
+        told = os.path.join(folder, "told")
+        with open(told, "w", encoding="utf-8") as file:
+            child = subprocess.Popen([*VTMAP, *words, "--root", here.root], env=here.words, stdout=file, stderr=file)
+        try:
+            following(cases, here, first, url, told)
+            taken_over(cases, here, first, url, closed)
+        finally:
+            child.kill()
+            child.wait()
+    os.unlink(closed)
+    here.maps("remove", "west")
+
+
+def true_soon(what):
+    """Whether something comes true within half a minute."""
+    for _ in range(300):
+        if what():
+            return True
+        time.sleep(0.1)
+    return False
+
+
+def edits_of(url):
+    """The number of the last edit of a server."""
+    return json.loads(curl(url + "/admin/status")[2])["edits"]
+
+
+def following(cases, here, first, url, told):
+    """What that process does while maps are edited, added and removed."""
+    for number in range(1, 4):
+        curl(f"{first.url}/features/{number}", "-X", "PUT", body=feature())
+    cases.show(
+        "maps: a standby has the edits of the other machine",
+        (true_soon(lambda: edits_of(url) == 3), logged(here, "west")),
+        (True, None),
+    )
+    here.add("inland")
+    cases.show("maps: a map that is added is logged", true_soon(lambda: logged(here, "inland") == []), True)
+    with open(here.path("etc/vtserve/maps/inland"), encoding="utf-8") as file:
+        port = next(line for line in file if line.startswith("PORT=")).strip()[5:]
+    curl(f"http://127.0.0.1:{port}/features/1", "-X", "PUT", body=feature())
+    cases.show("maps: with its edits", true_soon(lambda: logged(here, "inland") == [1]), True)
+    here.maps("remove", "inland")
+
+    def is_left():
+        with open(told, encoding="utf-8") as file:
+            return any(line.startswith("inland: ") and line.endswith("followed no more\n") for line in file)
+
+    cases.show("maps: one that is removed is followed no more", true_soon(is_left), True)
+    os.kill(here.process("vtserve@north.service"), signal.SIGKILL)
+    curl(f"{first.url}/features/4", "-X", "PUT", body=feature())
+    cases.show("maps: one whose server is killed holds up no other", true_soon(lambda: edits_of(url) == 4), True)
+    subprocess.run(["systemctl", "enable", "--now", "vtserve@north.service"], env=here.words)
+
+
+def taken_over(cases, here, first, url, closed):
+    """A standby of that process is taken over: it is left, and logged."""
+    os.makedirs(here.path("var/lib/vtserve-nginx"), exist_ok=True)
+    first.end(signal.SIGKILL)
+    with open(os.path.join(here.kept, "enabled"), "w", encoding="ascii"):
+        here.calls()
+        code, lines = here.vtmap("takeover", "--map", "west", "--leader", first.url)
+    os.unlink(os.path.join(here.kept, "enabled"))
+    called = here.calls()
+    units = [call for call in called if "vtserve-standby@" in call or "vtserve-log@" in call]
+    with open(closed, encoding="utf-8") as file:
+        cases.show(
+            "maps: one is taken over",
+            (code, lines[-1].split(".")[0], units, file.read()),
+            (0, "taken over: edits go on with 5", [], ""),
+        )
+    curl(f"{url}/features/9", "-X", "PUT", body=feature())
+    cases.show("maps: it is logged from then on", true_soon(lambda: logged(here, "west") == [5]), True)
+
+
 def addresses(cases, here, front):
     """Three maps by paths and by host names, and the one of a machine with one."""
     url = front.url
@@ -516,6 +633,7 @@ def maps(cases: Cases, folder: str) -> None:
                 )
                 addresses(cases, here, front)
                 boxes(cases, here, front)
+                followed(cases, here, place)
                 fates(cases, here, front)
     finally:
         here.end()

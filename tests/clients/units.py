@@ -24,6 +24,7 @@ EXPOSURE = {
     "vtserve-watch-maps.service": 1.5,
     "vtserve-backup.service": 1.0,
     "vtserve-log.service": 1.5,
+    "vtserve-follow-maps.service": 1.5,
     "vtserve-standby.service": 1.5,
     "vtserve-wfs.service": 1.5,
     "vtserve-wfs-maps.service": 1.5,

@@ -122,7 +122,7 @@ def tell_zooms(words: argparse.Namespace, client: Client) -> None:
 def has_room(words: argparse.Namespace, client: Client, status: Status | None, changes: Changes) -> bool:
     """Whether the server's disk has room for the changes, as far as a client knows. Prints what is needed."""
     sums, journal = changes.sizes(client.most)
-    for line in sums.lines(journal, (entries(status, client) or 0) if status else 0):
+    for line in sums.lines(journal, (entries({**status}, client) or 0) if status else 0):
         print(line, flush=True)
     if status is None:
         return True

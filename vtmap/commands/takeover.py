@@ -8,7 +8,7 @@ import time
 from ..client.client import Client
 from ..faults import Fault, Refused
 from ..forms import Status
-from ..machine.machine import CLOSED, FRONT, Machine, unit_of
+from ..machine.machine import CLOSED, FOLLOW_ALL, FRONT, Machine, unit_of
 
 ABOUT = {"takeover": """Makes the standby on this machine the server that people edit, after the first machine is gone. Run it as root, here.
 
@@ -21,13 +21,15 @@ the watch and the log, and lets edits in. --dry-run looks alone, and says what w
 
 If the first machine still answers, nothing is done: two machines that take edits of one map have two maps. With --planned it is
 waited until this one has all of its edits, which end before (`deny all` in its nginx.conf, or another machine that is stopped).
---map NAME takes one of several maps of this machine over."""}
+--map NAME takes one of several maps of this machine over. Where vtserve-follow-maps is enabled, it stops following that map alone, and logs it."""}
 # How many seconds the first machine has to answer.
 PATIENCE = 5
 # What a first machine runs beside the server. What of it makes the first backup and the first publication, for which `vtmap watch` looks.
 FIRST_HERE = ("vtserve-publish.timer", "vtserve-watch.timer", "vtserve-backup.timer", "vtserve-log.service")
 ONCE = ("vtserve-publish.service", "vtserve-backup.service")
-STANDBY = "vtserve-standby.service"
+STANDBY, LOG = "vtserve-standby.service", FIRST_HERE[-1]
+# How many seconds `vtmap follow --maps` takes to leave a map that nginx lets edits into: a question of it rests for two.
+LEAVES = 4
 
 
 def options(parser: argparse.ArgumentParser, _: str) -> None:
@@ -99,22 +101,29 @@ def work(words: argparse.Namespace) -> int:
     machine = Machine(words.root)
     here = Client(f"http://127.0.0.1:{machine.named(words.map).port}" if words.map else words.url)
     status = known(here)
-    standby, *units = (unit_of(name, words.map) for name in (STANDBY, *FIRST_HERE))
+    is_one_for_all = bool(words.map) and machine.is_enabled(FOLLOW_ALL)
+    standby = FOLLOW_ALL if is_one_for_all else unit_of(STANDBY, words.map)
+    units = [unit_of(name, words.map) for name in FIRST_HERE if name != LOG or not is_one_for_all]
     once = [unit_of(name, words.map) for name in ONCE]
-    leader = Client(words.leader or leader_of(standby, machine.unit(standby)))
+    leader = Client(words.leader or leader_of(standby, machine.unit(standby)).replace("{map}", words.map or ""))
     for each in (*units, *once, FRONT):
         machine.unit(each)
     machine.try_nginx()
     print(f"{here.address}: {status['features']:,} features, edit {status['edits']:,}")
     look_at_leader(words, leader, here)
     if words.dry_run:
-        print(f"would be done: systemctl disable --now {standby}\nwould be done: {machine.path(CLOSED)} lets edits of this map in\n"
+        ends = f"{standby} leaves this map" if is_one_for_all else f"systemctl disable --now {standby}"
+        print(f"would be done: {ends}\nwould be done: {machine.path(CLOSED)} lets edits of this map in\n"
               f"would be done: systemctl enable --now {FRONT} {' '.join(units)}\nwould be done: systemctl start --no-block {' '.join(once)}")
         return 0
     try:
-        machine.systemctl("disable", "--now", standby)
+        if is_one_for_all:
+            machine.open(words.map)
+            time.sleep(LEAVES)
+        else:
+            machine.systemctl("disable", "--now", standby)
+            machine.open(words.map)
         edits = known(here)["edits"]
-        machine.open(words.map)
         machine.systemctl("enable", "--now", FRONT, *units)
         machine.reload_nginx()
         machine.systemctl("start", "--no-block", *once)

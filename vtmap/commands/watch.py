@@ -1,4 +1,6 @@
 """`vtmap watch`: looks at a running `vtserve serve --admin`, and says what an operator should do before it is too late. Needs no package."""
+from __future__ import annotations
+
 import argparse
 import concurrent.futures
 import fnmatch
@@ -8,16 +10,23 @@ import os
 import re
 import shutil
 import time
+from collections.abc import Iterable, Iterator
+from typing import Any, Optional
 
 from ..alive import ASKED
 from ..client.client import Client, word
 from ..client.followers import NUMBER, Log
 from ..client.refusals import APART, STATUSES, WORDS, told
 from ..ending import regular, replaced
-from ..faults import Fault, NoAnswer, Wrong
+from ..faults import Fault, NoAnswer
 from ..files.attachments import LEAST_FREE, PATH, Attachments
 from ..limits import MOST_ENTRIES, SECTOR
 from ..machine.machine import Machine
+from ..machine.map_file import MapHere
+
+# What a server tells of itself; how urgent something to do is, and what it is.
+Status = dict[str, Any]
+Task = tuple[int, str]
 
 DAY = 24 * 3600
 SOON, NOW, UNKNOWN = 1, 2, 3
@@ -90,7 +99,7 @@ class Unseen(Exception):
     """Why the server's status isn't known: the level and the text."""
 
 
-def status_of(client):
+def status_of(client: Client) -> Status:
     """What the server tells of itself."""
     try:
         status, content = client.ask("GET", "/admin/status")
@@ -107,7 +116,7 @@ def status_of(client):
     return found
 
 
-def fault_of_reply(client, status, said):
+def fault_of_reply(client: Client, status: int, said: str) -> Task:
     """How urgent a reply is, and what to do about it."""
     if status == 404 and said == "NotFound":
         return UNKNOWN, f"{client.address}: 404: is the server started with --admin?"
@@ -117,20 +126,20 @@ def fault_of_reply(client, status, said):
     return LEVELS.get(status, NOW), f"{client.address}: {status}: {text}"
 
 
-def replace(path, text):
+def replace(path: str, text: str) -> None:
     """Replaces the content of a file that others may read."""
     replaced(path, text, ".new")
     os.chmod(path, 0o644)
 
 
-def next_area(status):
+def next_area(status: Status) -> int:
     """The sectors that the next publication may take: those of the last one, and those of the edits since, as the last one needed for its map."""
     used, journal = status["area"]["used"], status["journal"]["used"]
     snapshot = used - -(-status["archive"] // SECTOR)
     return used + round(journal * (used / snapshot if snapshot > 0 else 1))
 
 
-def fullness(status, most):
+def fullness(status: Status, most: int) -> Iterator[Task]:
     """What is full, or will be."""
     journal, area = status["journal"], status["area"]
     # An older server doesn't tell these.
@@ -157,7 +166,7 @@ def fullness(status, most):
                      f"since have touched {stale:,} of {cells:,} cells. Publish now, and {LARGER}")
 
 
-def entries(status, client):
+def entries(status: Status, client: Client) -> Optional[int]:
     """The entries of the published archive, by its header; None where it has no archive, or can't be asked for it."""
     if not status["archive"]:
         return None
@@ -168,7 +177,7 @@ def entries(status, client):
     return int.from_bytes(header[80:88], "little") if code == 206 and len(header) == 127 else None
 
 
-def many_tiles(status, most):
+def many_tiles(status: Status, most: int) -> Iterator[Task]:
     """Whether the archive has nearly as many entries as one may have."""
     used = status.get("entries")
     if used is not None and used * 100 >= MOST_ENTRIES * most:
@@ -176,7 +185,7 @@ def many_tiles(status, most):
                      f"journal is full no edit. End features at a smaller zoom, or {APART}")
 
 
-def left(status, client, wait):
+def left(status: Status, client: Client, wait: float) -> Iterator[Task]:
     """Whether a publication was left under way: nothing of it is done for a while."""
     if status["left"] is None:
         return
@@ -186,7 +195,7 @@ def left(status, client, wait):
         yield SOON, f"a publication was left with {status['left']:,} sectors to go: `vtmap publish` finishes it, or drops it with --cancel"
 
 
-def speed(status, path, now, every):
+def speed(status: Status, path: str, now: float, every: Optional[float]) -> Iterator[Task]:
     """Whether the journal fills before the next publication, at the speed since the last one. Keeps in a file what was seen."""
     try:
         with open(regular(path), encoding="utf-8") as file:
@@ -215,7 +224,7 @@ def speed(status, path, now, every):
         yield SOON, f"nothing was published for {waited:.1f} hours, though the map was edited: what does `vtmap publish` say?"
 
 
-def recorded(path, now, every):
+def recorded(path: str, now: float, every: Optional[float]) -> Iterator[Task]:
     """What `vtmap publish` recorded of the last publication."""
     try:
         with open(path, encoding="utf-8") as file:
@@ -230,13 +239,13 @@ def recorded(path, now, every):
         yield SOON, f"the last publication was {hours:.1f} hours ago, and they are to come every {every:.1f} hours"
 
 
-def then_of(result):
+def then_of(result: str) -> str:
     """What is to be done about a publication that the server has refused, in brackets: `refused: TooManyTiles 507`."""
     found = WORDS.get(result.removeprefix("refused: ").split(" ")[0])
     return f" ({told(found)})" if found else ""
 
 
-def backed_up(folder, now, most):
+def backed_up(folder: str, now: float, most: float) -> Iterator[Task]:
     """Whether the newest backup in a folder is older than so many hours."""
     try:
         with os.scandir(folder) as entries:
@@ -251,7 +260,7 @@ def backed_up(folder, now, most):
         yield SOON, f"the newest backup in {folder} is {hours:.1f} hours old, and it may be {most:g}: journalctl -u vtserve-backup says why"
 
 
-def unconfirmed(status, client, wait):
+def unconfirmed(status: Status, client: Client, wait: float) -> Iterator[Task]:
     """Whether a server that acknowledges no edit without a standby lacks one."""
     known = status.get("standby")
     if known is None:
@@ -267,7 +276,7 @@ def unconfirmed(status, client, wait):
                     f"{DOES_IT_RUN}")
 
 
-def behind(urls, status, wait):
+def behind(urls: list[str], status: Status, wait: float) -> Iterator[Task]:
     """Whether a standby lacks edits that the server had a while ago."""
     for url in urls:
         standby = Client(url)
@@ -285,7 +294,7 @@ def behind(urls, status, wait):
                         "`vtmap follow` running, and what does it say (journalctl -u vtserve-standby)?")
 
 
-def behind_in_logs(paths, status, wait):
+def behind_in_logs(paths: list[str], status: Status, wait: float) -> Iterator[Task]:
     """Whether a log lacks edits that the server had a while ago."""
     for path in paths:
         log = Log(path)
@@ -300,7 +309,7 @@ def behind_in_logs(paths, status, wait):
                         "`vtmap follow` running, and what does it say (journalctl -u vtserve-log)?")
 
 
-def gateways(urls):
+def gateways(urls: list[str]) -> Iterator[Task]:
     """Whether gateways answer by WFS."""
     for url in urls:
         client = Client(url)
@@ -316,7 +325,7 @@ def gateways(urls):
             yield LEVELS.get(status, NOW), f"the gateway {client.address}: {status}: {text}"
 
 
-def kept_files(folder, backups, now, hours):
+def kept_files(folder: str, backups: Optional[str], now: float, hours: float) -> Iterator[Task]:
     """Whether photos and files of features can be kept, and are in the backups."""
     files, there = Attachments(folder), Attachments(os.path.join(backups or folder, PATH.rstrip("/")))
     try:
@@ -335,7 +344,7 @@ def kept_files(folder, backups, now, hours):
         yield SOON, f"{len(old):,} photos and files of {folder} aren't in {there.folder}, as {old[0]}: vtmap save --files {folder}"
 
 
-def metrics(path, status, result, name_of_map=None):
+def metrics(path: str, status: Optional[Status], result: int, name_of_map: Optional[str] = None) -> None:
     """Writes the metrics; without a status those that are known. Where a machine has several maps, each has the name of its map as a label."""
     label = f'{{map="{name_of_map}"}}' if name_of_map else ""
     values = {"up": int(status is not None), "watch_result": result}
@@ -366,7 +375,7 @@ def metrics(path, status, result, name_of_map=None):
     ))
 
 
-def tasks(words, client, now):
+def tasks(words: argparse.Namespace, client: Client, now: float) -> tuple[Optional[Status], list[Task]]:
     """The status, or None, and what is to be done, each with its level."""
     found = list(recorded(words.record, now, words.every)) if words.record else []
     found += backed_up(words.backups, now, words.backup_hours) if words.backups else []
@@ -381,11 +390,12 @@ def tasks(words, client, now):
         found += behind_in_logs(words.log, status, words.wait)
         found += gateways(words.gateway)
     except Unseen as fault:
-        return None, [*found, fault.args]
+        level, text = fault.args
+        return None, [*found, (level, text)]
     return status, found
 
 
-def options(parser, _):
+def options(parser: argparse.ArgumentParser, _: str) -> None:
     """The words of the command."""
     parser.add_argument("--at", type=int, default=80, metavar="PERCENT", help="how full the journal and an area may be (80)")
     parser.add_argument("--every", type=float, metavar="HOURS", help="how often the map is to be published (as often as was seen)")
@@ -404,21 +414,18 @@ def options(parser, _):
     parser.add_argument("--root", metavar="FOLDER", default="/", help="--maps: the folder of /etc, for a try")
 
 
-def of_map(words, one):
+def of_map(words: argparse.Namespace, one: MapHere) -> argparse.Namespace:
     """The words of the command for one of the maps, which has a folder for what is kept of it."""
-    def named(value):
-        return [named(each) for each in value] if isinstance(value, list) else value and value.format(map=one.name, port=one.port, gateway=one.gateway)
+    def named(value: Any) -> Any:
+        return [named(each) for each in value] if isinstance(value, list) else value and one.named(value)
 
-    try:
-        found = argparse.Namespace(**{**vars(words), **{name: named(getattr(words, name)) for name in NAMED}, "map": one.name})
-    except (LookupError, ValueError) as fault:
-        raise Wrong(f"--maps: {{map}}, {{port}} and {{gateway}} can be named in the other words: {fault}") from fault
+    found = argparse.Namespace(**{**vars(words), **{name: named(getattr(words, name)) for name in NAMED}, "map": one.name})
     for path in filter(None, (found.state, found.metrics)):
         os.makedirs(os.path.dirname(os.path.abspath(path)), exist_ok=True)
     return found
 
 
-def work(words):
+def work(words: argparse.Namespace) -> int:
     """Looks at one map, or at each of this machine, and prints what is to be done."""
     if not words.maps:
         result, lines = looked(words)
@@ -436,20 +443,20 @@ def work(words):
     return most_urgent(result for result, _ in found)
 
 
-def most_urgent(levels):
+def most_urgent(levels: Iterable[int]) -> int:
     """The most urgent of some levels, 0 if there is none."""
     levels = set(levels)
     return next((level for level in (NOW, UNKNOWN, SOON) if level in levels), 0)
 
 
-def looked(words):
+def looked(words: argparse.Namespace) -> tuple[int, list[str]]:
     """Looks at a map. Returns how urgent what is to be done is, and the lines about it."""
     try:
         status, found = tasks(words, Client(words.url), time.time())
     except Fault as fault:
         status, found = None, [(UNKNOWN, str(fault))]
     result, lines = most_urgent(level for level, _ in found), [text for _, text in found]
-    if not found:
+    if status and not found:
         lines = [f"{status['features']:,} features, edit {status['edits']:,}, generation {status['generation']:,}: nothing to do"]
     if words.metrics:
         try:

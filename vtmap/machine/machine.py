@@ -29,6 +29,8 @@ GATEWAY, DRAWER = "vtserve-wfs@{}.service", "vtserve-wmts@{}.service"
 WATCH, WATCH_ALL = STARTED[2], "vtserve-watch-maps.timer"
 # Answers for all maps (`vtmap wfs --maps`): where it is enabled, no map has a gateway of its own.
 GATEWAY_ALL = "vtserve-wfs-maps.service"
+# Follows the edits of all maps (`vtmap follow --maps`): where it is enabled, no map has a log or a standby's follower of its own.
+FOLLOW_ALL = "vtserve-follow-maps.service"
 # What is done once at first: `vtmap watch` looks for both.
 FIRST = ("vtserve-publish@{}.service", "vtserve-backup@{}.service")
 OTHERS = (GATEWAY, DRAWER, "vtserve-log@{}.service", "vtserve-standby@{}.service")
@@ -140,10 +142,6 @@ class Machine:
         self.systemctl("enable", "--now", *units)
         self.systemctl("start", "--no-block", *(unit.format(one.name) for unit in FIRST))
 
-    def is_enabled(self, unit: str) -> bool:
-        """Whether a unit is started with the machine."""
-        return subprocess.run(["systemctl", "--quiet", "is-enabled", unit], check=False).returncode == 0
-
     def stop(self, name: str) -> None:
         """Stops what serves a map, timers before what they start."""
         self.systemctl("disable", "--now", *(unit.format(name) for unit in (*STARTED[1:], *OTHERS, STARTED[0])))
@@ -185,6 +183,14 @@ class Machine:
             raise Refused(f"there is no {path}: copy that of the first machine")
         self.run(["nginx", "-g", "user www-data;", "-q", "-t", "-p", self.path(FRONT_FOLDER), "-c", path])
 
+    def closed(self) -> set[str]:
+        """The names of the maps that this machine has as standbys: nginx passes no edits of them on."""
+        path = self.path(CLOSED)
+        if not os.path.exists(path):
+            return set()
+        with open(path, encoding="utf-8") as file:
+            return {found[1] for found in (re.match(r'"?~\^([^ ]*) ', line) for line in file) if found}
+
     def open(self, name: str | None) -> None:
         """Lets nginx pass edits of a map on, which a standby had: of that name, or of the only one."""
         path = self.path(CLOSED)
@@ -196,6 +202,10 @@ class Machine:
     def unit(self, name: str) -> str:
         """The text of a unit of systemd. Raises `Refused` if there is none of that name."""
         return self.run(["systemctl", "cat", name])
+
+    def is_enabled(self, unit: str) -> bool:
+        """Whether a unit is started with the machine."""
+        return subprocess.run(["systemctl", "--quiet", "is-enabled", unit], check=False).returncode == 0
 
     def systemctl(self, *words: str) -> None:
         """Runs systemctl. Raises `Refused`."""

@@ -35,6 +35,13 @@ class MapHere(NamedTuple):
         further = [f"PICTURES={self.pictures}\n"] * bool(self.pictures) + [f"BOUNDS={bounds}\n"] * bool(bounds)
         return ABOUT.format(name=self.name) + f'PORT={self.port}\nGATEWAY={self.gateway}\nHOSTS="{hosts}"\n' + "".join(further)
 
+    def named(self, text: str) -> str:
+        """A word of a command with what this map has in place of {map}, {port} and {gateway}. Raises `Wrong`."""
+        try:
+            return text.format(map=self.name, port=self.port, gateway=self.gateway)
+        except (LookupError, ValueError) as fault:
+            raise Wrong(f"--maps: {{map}}, {{port}} and {{gateway}} can be named in the other words: {fault}") from fault
+
 
 def box(text: str) -> tuple[float, ...]:
     """A box, as --bounds has it: degrees west, south, east, north. Raises `Wrong`."""
