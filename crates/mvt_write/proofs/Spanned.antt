@@ -4,7 +4,7 @@ use Rattle.std.specs.Prelude.{All}
 use Rattle.std.specs.List.{AllByRecursion}
 use Rattle.std.proofs.Math.Seq.{drop-append_seam}
 use Rattle.std.proofs.lemmas.List.{map-append, length-append, length-drop, take-append-le, drop-append-le}
-use Rattle.std.proofs.lemmas.List.Elements.{All-push, recursion_from_All, All-from_recursion}
+use Rattle.std.proofs.lemmas.List.Elements.{recursion_from_All}
 use Rattle.mvt_write.specs.declared.span.Span.{Span}
 use Rattle.mvt_write.specs.Spans.{spanned, each_spanned}
 
@@ -35,15 +35,3 @@ each_push bytes entry spans s ordered within starts ends =
     ∙ ap₂ (λ (front last : List (List ℕ)). front ++ last)
     (each_more bytes entry spans (recursion_from_All (λ t. t.start ≤ t.end) spans ordered) (recursion_from_All (λ t. t.end ≤ length bytes) spans within))
     (ap (λ (b : List ℕ). b ∷ []) (last_spanned bytes entry s starts ends))
-
-longer_by : (bytes entry : List ℕ) (spans : List Span) → AllByRecursion (λ t. t.end ≤ length bytes) spans
-    → AllByRecursion (λ t. t.end ≤ length (bytes ++ entry)) spans
-longer_by bytes entry [] within = tt
-longer_by bytes entry (s ∷ spans) within = (omega (arith, within.0, length-append bytes entry), longer_by bytes entry spans within.1)
-
-pub within_push : (bytes entry : List ℕ) (spans : List Span) (s : Span) → All (λ t. t.end ≤ length bytes) spans → s.end ≡ length (bytes ++ entry)
-    → All (λ t. t.end ≤ length (bytes ++ entry)) (spans ++ s ∷ [])
-within_push bytes entry spans s within ends =
-    let P = λ (t : Span). t.end ≤ length (bytes ++ entry) in
-    All-push P spans s (All-from_recursion P spans (longer_by bytes entry spans (recursion_from_All (λ t. t.end ≤ length bytes) spans within)))
-    (omega (arith, ends))
