@@ -64,6 +64,7 @@ impl<'a> Iterator for Fields<'a> {
 
     ghost remaining = { item_count fields_rest };
 
+    #[inline(always)]
     fn next(&mut self) -> Option<Result<Field<'a>, WireFault>> {
         if self.rest.is_empty() {
             return None;
