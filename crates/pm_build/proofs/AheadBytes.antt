@@ -1,10 +1,10 @@
 -- Bytes of a content that isn't added yet.
-use Rattle.std.proofs.Common.{◌≡◌, ℕ, ◌-◌, ◌≤◌, List, [], ◌++◌, length, take, drop, sym, ap, subst, ◌∙◌, arith}
+use Rattle.std.proofs.Common.{◌≡◌, ℕ, ◌-◌, ◌≤◌, List, ◌++◌, length, take, drop, sym, ap, subst, ◌∙◌, arith}
 use Rattle.std.specs.List.{concat}
-use Rattle.std.proofs.lemmas.List.{append-nil, take-append-le, take_all, drop-append-le, length-drop}
+use Rattle.std.proofs.lemmas.List.{take_all, drop-append-le, length-drop}
 use Rattle.pm_build.specs.Ahead.{AreStored}
 use Rattle.pm_build.specs.Hashing.{IsHashed}
-use Rattle.pm_build.proofs.Pieces.{first_parts, first_within}
+use Rattle.pm_build.proofs.Pieces.{first_within}
 use Rattle.pm_build.proofs.Words.{hashed_front}
 
 -- all bytes from an offset on
@@ -26,10 +26,6 @@ module _ (cs : List (List ℕ)) (bytes : List ℕ) (is : AreStored cs bytes) whe
   pub within : length (concat cs) ≤ length bytes
   within = first_within bytes (concat cs) is
 
-  -- with bytes put after the others
-  pub stored_more : (part : List ℕ) → AreStored cs (bytes ++ part)
-  stored_more part = take-append-le (length (concat cs)) bytes part within ∙ is
-
   pub ahead_more : (part : List ℕ) → drop (length (concat cs)) (bytes ++ part) ≡ drop (length (concat cs)) bytes ++ part
   ahead_more part = drop-append-le (length (concat cs)) bytes part within
 
@@ -38,11 +34,6 @@ module _ (cs : List (List ℕ)) (bytes : List ℕ) (is : AreStored cs bytes) whe
       → IsHashed (drop (length (concat cs)) (bytes ++ part)) words hash
   hashed_more part words hash known =
       subst (λ (xs : List ℕ). IsHashed xs words hash) (sym (ahead_more part)) (hashed_front (drop (length (concat cs)) bytes) part words hash known)
-
-  -- if none are ahead, they are the contents
-  pub all_stored : drop (length (concat cs)) bytes ≡ [] → bytes ≡ concat cs
-  all_stored none =
-      first_parts (length (concat cs)) bytes (concat cs) is ∙ ap (λ (xs : List ℕ). concat cs ++ xs) none ∙ append-nil (concat cs)
 
   -- without what is ahead they are still stored
   pub stored_less : AreStored cs (take (length (concat cs)) bytes)
