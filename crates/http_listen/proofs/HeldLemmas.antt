@@ -4,11 +4,11 @@ use Rattle.std.proofs.Common.{take, drop, true≢false, inl, inr}
 use Rattle.std.specs.Prelude.{◌⊎◌, ⊤, is_some}
 use Rattle.std.specs.declared.option.Option.{Option}
 use Rattle.http_listen.specs.declared.peers.Peer.{Peer}
-use Rattle.http_listen.specs.Conversations.{Act, asked, replied, Conversation, Steps, Stands, Ends, IsHeld, IsTalking}
+use Rattle.http_listen.specs.Conversations.{Act, asked, replied, AreDue, Conversation, Steps, Stands, Ends, IsHeld, IsTalking}
 use Rattle.http_listen.specs.NoMemory.{no_memory}
-use Rattle.http_listen.specs.Talks.{Told, Grows, Moves}
-use Rattle.http_listen.proofs.StepLemmas.{steps_stand, talking_on, talking_held}
-use Rattle.http_listen.proofs.TalkLemmas.{moves_none, moves_both, moves_cut, moves_read, moves_sent, moves_added}
+use Rattle.http_listen.specs.Talks.{Told, Grows, Moves, given_by}
+use Rattle.http_listen.proofs.StepLemmas.{due_later, steps_stand, talking_on, talking_held}
+use Rattle.http_listen.proofs.TalkLemmas.{moves_none, moves_both, moves_cut, moves_read, moves_sent, moves_added, moves_stay}
 
 module _ {S : Type 0} (told : S → Option Told) where
   -- A turn of one that has ended.
@@ -28,8 +28,10 @@ module _ {S : Type 0} (told : S → Option Told) where
           moved = subst (λ (l : List ℕ). Moves first [] l (replied acts ++ h.talk.refusal) (told new.stream) ((new.connection.output ++ s.cut) ++ h.cut))
               (append_assoc (asked acts) h.talk.rest s.given) both;
           refused = h.talk.refused;
-          left = h.talk.left;
+          course = h.talk.course;
           follows = h.talk.follows;
+          due = due_later (given_by first) (told old.stream) (told new.stream) acts
+              (moves_stay (told old.stream) (told new.stream) old.connection.output s.given [] (new.connection.output ++ s.cut) s.moved) h.talk.due;
         };
         cut = s.cut ++ h.cut;
         waits = append_assoc new.connection.output s.cut h.cut;
@@ -151,6 +153,11 @@ module _ {S : Type 0} (told : S → Option Told) where
         inr sent.0,
       )
 
+  due_ends : (first : Option Told) (acts : List Act) (old new : Peer S) (h : IsHeld told first acts old) → Ends told old new
+      → AreDue (given_by first) (told new.stream) acts
+  due_ends first acts old new h e = due_later (given_by first) (told old.stream) (told new.stream) acts
+      (moves_stay (told old.stream) (told new.stream) old.connection.output [] e.refusal (new.connection.output ++ e.cut) e.moved) h.talk.due
+
   -- It is closed.
   pub end_closed : (first : Option Told) (acts : List Act) (old new : Peer S) → IsHeld told first acts old → old.state.drops ≡ None → Ends told old new
       → Conversation first acts (told new.stream)
@@ -162,8 +169,9 @@ module _ {S : Type 0} (told : S → Option Told) where
         waits = new.connection.output ++ t.1;
         moved = t.2;
         refused = t.3;
-        left = h.talk.left;
+        course = h.talk.course;
         follows = h.talk.follows;
+        due = due_ends first acts old new h e;
       }
 
   -- Or what its peer still sends is dropped.
@@ -178,8 +186,9 @@ module _ {S : Type 0} (told : S → Option Told) where
           waits = new.connection.output ++ t.1;
           moved = t.2;
           refused = t.3;
-          left = h.talk.left;
+          course = h.talk.course;
           follows = h.talk.follows;
+          due = due_ends first acts old new h e;
         };
         cut = t.1;
         waits = refl;

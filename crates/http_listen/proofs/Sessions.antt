@@ -1,12 +1,12 @@
 -- All connections of a listener, from the first turn on.
 use Rattle.std.proofs.Common.{◌≡◌, ℕ, ◌+◌, ◌<◌, ◌≤◌, List, [], ◌∷◌, ◌++◌, None, Some, refl, sym, subst, ◌∙◌, inl, inr}
-use Rattle.std.proofs.Common.{lt_of_le_of_lt, eq-zero-or-pos}
+use Rattle.std.proofs.Common.{false, lt_of_le_of_lt, eq-zero-or-pos}
 use Rattle.std.proofs.lemmas.Bool.{cases_lt}
 use Rattle.std.specs.Prelude.{◌⊎◌, ⊤}
 use Rattle.std.specs.declared.option.Option.{Option}
 use Rattle.http_listen.specs.declared.peers.Peer.{Peer}
-use Rattle.http_listen.specs.declared.rests.Unsent.{Unsent}
 use Rattle.http_listen.specs.Conversations.{Act, Deed, acts_of, deeds_of, Follows}
+use Rattle.http_listen.specs.Courses.{Course, course_of, fresh}
 use Rattle.http_listen.specs.Goes.{Acts, AreOver, Goes, IsOver, IsThere, Ledger, Passes}
 use Rattle.http_listen.specs.Marks.{Mark, at_opening, Adds}
 use Rattle.http_listen.specs.Orders.{AreInOrder}
@@ -49,16 +49,16 @@ module _ {S : Type 0} (told : S → Option Told) where
   -- The first acts of a new connection.
   pub session_new : {begun : ℕ} {deeds : List Deed} {before between found opened after : Option (List (Mark S))} {old mid new : ℕ → Option (Peer S)}
       (peer : Peer S) (acts : List Act) (stream : S) → Session begun deeds before between old → Goes told between old found mid
-      → peer.state.number ≡ begun + 1 → peer.stream ≡ stream → peer.connection.input ≡ [] → peer.connection.output ≡ [] → peer.state.unsent ≡ None
-      → Adds found (at_opening (begun + 1) stream ∷ []) opened → Acts told opened mid peer acts after new
+      → peer.state.number ≡ begun + 1 → peer.stream ≡ stream → peer.connection.input ≡ [] → peer.connection.output ≡ [] → course_of peer ≡ fresh
+      → peer.state.ended ≡ false → Adds found (at_opening (begun + 1) stream ∷ []) opened → Acts told opened mid peer acts after new
       → Session (begun + 1) (deeds ++ deeds_of peer.state.number acts) before after new
-  session_new {begun} {deeds} {before} {between} {found} {opened} {after} {old} {mid} {new} peer acts stream s p number is input output unsent adds a =
+  session_new {begun} {deeds} {before} {between} {found} {opened} {after} {old} {mid} {new} peer acts stream s p number is input output course going adds a =
       let t = session_goes s p in
       let mark : Mark S = at_opening peer.state.number peer.stream in
       let adds_it : Adds found (mark ∷ []) opened =
       subst (λ (n : ℕ). Adds found (at_opening n peer.stream ∷ []) opened) (sym number)
       (subst (λ (x : S). Adds found (at_opening (begun + 1) x ∷ []) opened) (sym is) adds) in
-      let open_one = ledger_new told begun deeds t.marks mid peer number (talking_new told peer input output unsent) t.ledger in
+      let open_one = ledger_new told begun deeds t.marks mid peer number (talking_new told peer input output course going) t.ledger in
       record {
         marks = (t.marks ++ mark ∷ []) ++ a.more;
         adds = adds_both before opened after (t.marks ++ mark ∷ []) a.more (adds_both before found opened t.marks (mark ∷ []) t.adds adds_it) a.adds;
@@ -82,14 +82,14 @@ module _ {S : Type 0} (told : S → Option Told) where
     pub are_over : AreOver told begun deeds before after
     are_over = record { marks = s.marks; adds = s.adds; each = each_over; none = s.ledger.none }
 
-    none_left : (number : ℕ) → (number ≡ 0) ⊎ (begun < number) → (left : Option Unsent) × Follows None (acts_of number deeds) left
-    none_left number out = (None, subst (λ (a : List Act). Follows None a None) (sym (s.ledger.none number out).0) refl)
+    none_left : (number : ℕ) → (number ≡ 0) ⊎ (begun < number) → (course : Course) × Follows fresh (acts_of number deeds) course
+    none_left number out = (fresh, subst (λ (a : List Act). Follows fresh a fresh) (sym (s.ledger.none number out).0) (inl refl))
 
     left_by : (number : ℕ) → (number ≡ 0) ⊎ (0 < number) → (begun < number) ⊎ (number ≤ begun)
-        → (left : Option Unsent) × Follows None (acts_of number deeds) left
+        → (course : Course) × Follows fresh (acts_of number deeds) course
     left_by number (inl e) far = none_left number (inl e)
     left_by number (inr pos) (inl above) = none_left number (inr above)
-    left_by number (inr pos) (inr le) = let o = each_over number pos le in (o.talk.left, o.talk.follows)
+    left_by number (inr pos) (inr le) = let o = each_over number pos le in (o.talk.course, o.talk.follows)
 
     pub in_order : (count : ℕ) → begun ≤ count → AreInOrder count deeds
     in_order count le = record {

@@ -13,7 +13,7 @@ use Rattle.http_listen.specs.Stays.{StandsAt, AllStand}
 module _ {S : Type 0} where
   stand_same : (at : Option (Peer S)) → StandsAt at at
   stand_same None = tt
-  stand_same (Some peer) = record { stream = refl; input = refl; output = refl; number = refl; drops = refl; unsent = refl }
+  stand_same (Some peer) = record { stream = refl; input = refl; output = refl; number = refl; drops = refl; ended = refl; course = refl }
 
   stand_both : (old mid new : Option (Peer S)) → StandsAt old mid → StandsAt mid new → StandsAt old new
   stand_both None None None s t = tt
@@ -27,12 +27,13 @@ module _ {S : Type 0} where
     output = t.output ∙ s.output;
     number = t.number ∙ s.number;
     drops = t.drops ∙ s.drops;
-    unsent = t.unsent ∙ s.unsent;
+    ended = t.ended ∙ s.ended;
+    course = t.course ∙ s.course;
   }
 
   stand_changed : (change : Change) (at : Option (Peer S)) → StandsAt at (option_map (with_change change) at)
   stand_changed change None = tt
-  stand_changed change (Some peer) = record { stream = refl; input = refl; output = refl; number = refl; drops = refl; unsent = refl }
+  stand_changed change (Some peer) = record { stream = refl; input = refl; output = refl; number = refl; drops = refl; ended = refl; course = refl }
 
   stand_cond : (b : Bool) (at x y : Option (Peer S)) → StandsAt at x → StandsAt at y → StandsAt at (cond b x y)
   stand_cond true at x y s t = s

@@ -1,6 +1,6 @@
 -- The conversation of one connection: what is done for it, one act after the other, and what its stream told.
 use Rattle.std.specs.Prelude.{◌≡◌, ◌≢◌, ◌≤◌, ◌+◌, ◌-◌, ◌⊎◌, ℕ, Bool, nat_eq, cond, List, [], ◌∷◌, ◌++◌, length, Option, None, Some, is_some}
-use Rattle.std.specs.Prelude.{Result, Ok, Err, MatchOption, ⊤, false}
+use Rattle.std.specs.Prelude.{Result, Ok, Err, MatchOption, ⊤, true, false}
 use Rattle.httparse.specs.declared.spans.HeaderSpan.{HeaderSpan}
 use Rattle.std.specs.declared.alloc.AllocError.{AllocError}
 use Rattle.http_serve.specs.declared.connection.Answer.{Answer}
@@ -16,11 +16,12 @@ use Rattle.http_listen.specs.declared.turns.Next.{Next}
 use Rattle.http_listen.specs.declared.turns.Next.TheVariants.{Asks, Reads, Rests, Closes}
 use Rattle.http_requests.specs.Inputs.{IsAsked}
 use Rattle.http_serve.specs.Connections.{PreparesNext}
-use Rattle.http_listen.specs.Asked.{IsOneOrNone}
+use Rattle.http_listen.specs.Asked.{IsDue, IsOneOrNone}
 use Rattle.http_listen.specs.Connections.{CameTo}
+use Rattle.http_listen.specs.Courses.{Course, GoesOnAfter, MaySettle, Settles, counted, course_of, fresh, settled}
 use Rattle.http_listen.specs.NoMemory.{no_memory}
-use Rattle.http_listen.specs.Rests.{rest_after, cut_by}
-use Rattle.http_listen.specs.Talks.{Told, Grows, Moves}
+use Rattle.http_listen.specs.Rests.{rest_after, once_sent, cut_by}
+use Rattle.http_listen.specs.Talks.{Told, Grows, HasEnded, IsAt, Moves, given_by}
 
 -- what is done for a connection
 pub data Act : Type 0 where
@@ -57,36 +58,46 @@ IsEndedBy (fetched ticket offset count (Ok bytes)) ending = ⊤
 IsEndedBy (fetched ticket offset count (Err cause)) ending = ending ≡ Some (Err (cut_by cause))
 IsEndedBy (prepared bytes) ending = ⊤
 
--- what is left of a content once these bytes of it were read
-abbrev pub IsLeft : Unsent → Result (List ℕ) RestFault → Option Unsent → Type 0
-IsLeft unsent (Err fault) left = ⊤
-IsLeft unsent (Ok bytes) left =
-    MatchOption left (unsent.end ≤ unsent.at + length bytes) (λ next. next ≡ record unsent { at = unsent.at + length bytes })
+-- What is read of a content leaves this course. If it couldn't be read, the connection ends.
+abbrev pub IsFetched : Course → Unsent → Result (List ℕ) RestFault → Course → Type 0
+IsFetched before unsent (Err fault) after = after ≡ record before { left = None; outcome = Some (Err (cut_by fault)) }
+IsFetched before unsent (Ok bytes) after = (after ≡ record before { left = after.left })
+    × MatchOption after.left (unsent.end ≤ unsent.at + length bytes) (λ next. next ≡ record unsent { at = unsent.at + length bytes })
 
--- An act is in its place, by what is left before it of the last reply's content and after it: while something is left, nothing is answered or
--- prepared, and what is read is the next bytes, no more than are left, by the ticket of that reply.
-abbrev pub IsNext : Option Unsent → Act → Option Unsent → Type 0
-IsNext before (answered bytes replies result ticket) after = (before ≡ None) × (after ≡ rest_after ticket result)
+-- An act is in its place, by the course before it and after it: while something is left of the last reply's content, and after a reply with which
+-- the connection ends, nothing is answered or prepared; what is read is the next bytes of that content, no more than are left, by its reply's ticket.
+abbrev pub IsNext : Course → Act → Course → Type 0
+IsNext before (answered bytes replies result ticket) after = MaySettle before
+    × (after ≡ record { left = rest_after ticket result; outcome = Some (once_sent result); requests = counted before.requests before.outcome })
 IsNext before (fetched ticket offset count outcome) after =
-    (unsent : Unsent) × (before ≡ Some unsent) × (ticket ≡ unsent.ticket) × (offset ≡ unsent.at) × (count ≤ unsent.end - unsent.at)
-    × IsLeft unsent outcome after
-IsNext before (prepared bytes) after = (before ≡ None) × (after ≡ None)
+    (unsent : Unsent) × (before.left ≡ Some unsent) × (ticket ≡ unsent.ticket) × (offset ≡ unsent.at) × (count ≤ unsent.end - unsent.at)
+    × IsFetched before unsent outcome after
+IsNext before (prepared bytes) after = MaySettle before × (after ≡ settled before)
 
 -- so is each of these
-abbrev pub Follows : Option Unsent → List Act → Option Unsent → Type 0
-Follows before [] after = after ≡ before
-Follows before (act ∷ acts) after = (between : Option Unsent) × IsNext before act between × Follows between acts after
+abbrev pub Follows : Course → List Act → Course → Type 0
+Follows before [] after = Settles before after
+Follows before (act ∷ acts) after = (between : Course) × IsNext before act between × Follows between acts after
+
+-- The bytes of each of these that are answered may be: those before them are this many of the stream's.
+abbrev pub AreDue : (count : ℕ) → Option Told → List Act → Type 0
+AreDue count told [] = ⊤
+AreDue count told (answered bytes replies result ticket ∷ acts) = IsDue (count + length bytes) told bytes × AreDue (count + length bytes) told acts
+AreDue count told (fetched ticket offset n outcome ∷ acts) = AreDue count told acts
+AreDue count told (prepared bytes ∷ acts) = AreDue count told acts
 
 -- A connection's stream told first as it was opened, and last as it was closed. It gave the bytes that were answered, in order, and then the rest;
--- it took the replies, in order, and after them perhaps the one for want of memory, but for those that wait: their last bytes.
+-- it took the replies, in order, and after them perhaps the one for want of memory, but for those that wait: their last bytes. What is no request
+-- was answered only if nothing that may follow makes it one, or all of it was there at the stream's end.
 pub record Conversation (first : Option Told) (acts : List Act) (last : Option Told) : Type 0 where
   pub rest : List ℕ
   pub refusal : List ℕ
   pub waits : List ℕ
   pub moved : Moves first [] (asked acts ++ rest) (replied acts ++ refusal) last waits
   pub refused : (refusal ≡ []) ⊎ (refusal ≡ no_memory)
-  pub left : Option Unsent
-  pub follows : Follows None acts left
+  pub course : Course
+  pub follows : Follows fresh acts course
+  pub due : AreDue (given_by first) last acts
 
 -- replies
 module _ {S : Type 0} (replies : S → RequestView → ReplyView → S → Type 0) where
@@ -107,6 +118,10 @@ module _ {S : Type 0} (replies : S → RequestView → ReplyView → S → Type 
 
 -- what streams told
 module _ {S : Type 0} (told : S → Option Told) where
+  -- what a connection takes for the end of its input was told
+  abbrev pub KnowsEnd : Peer S → Type 0
+  KnowsEnd peer = peer.state.ended ≡ true → HasEnded (told peer.stream)
+
   -- Acts lead from a connection to what it is then. Only if it isn't whole, bytes of its input or its output are lost.
   pub record Steps (old : Peer S) (acts : List Act) (whole : Type 0) (new : Peer S) : Type 0 where
     pub number : new.state.number ≡ old.state.number
@@ -116,16 +131,20 @@ module _ {S : Type 0} (told : S → Option Told) where
     pub cut : List ℕ
     pub input : old.connection.input ++ given ≡ asked acts ++ (new.connection.input ++ lost)
     pub moved : Moves (told old.stream) old.connection.output given (replied acts) (told new.stream) (new.connection.output ++ cut)
-    pub left : Option Unsent
-    pub follows : Follows old.state.unsent acts left
-    pub lossless : whole → (lost ≡ []) × (cut ≡ []) × (new.state.unsent ≡ left)
+    pub course : Course
+    pub follows : Follows (course_of old) acts course
+    pub lossless : whole → (lost ≡ []) × (cut ≡ []) × (course_of new ≡ course)
     -- if no rest of a content is left, nothing of the output is lost
     pub cuts : new.state.unsent ≡ None → cut ≡ []
+    pub knows : KnowsEnd old → KnowsEnd new
+    pub due : KnowsEnd old → (count : ℕ) → IsAt count (told old.stream) old.connection.input → AreDue count (told new.stream) acts
 
   -- A connection in the middle of its conversation: all that was read and isn't answered is its input, and all that is to be sent its output.
   pub record IsTalking (first : Option Told) (acts : List Act) (peer : Peer S) : Type 0 where
     pub moved : Moves first [] (asked acts ++ peer.connection.input) (replied acts) (told peer.stream) peer.connection.output
-    pub follows : Follows None acts peer.state.unsent
+    pub follows : Follows fresh acts (course_of peer)
+    pub knows : KnowsEnd peer
+    pub due : AreDue (given_by first) (told peer.stream) acts
 
   -- A connection in its conversation, open or ended. Of what waited to be sent, the last bytes are lost. While it is open, only that is lost of which
   -- a rest is left, and there was enough memory.
@@ -167,7 +186,7 @@ GoesOn Closes = ⊥
 
 -- what streams told
 module _ {S : Type 0} (told : S → Option Told) where
-  -- bytes were read and are the end of the input; if it ends now, some may be lost
+  -- Bytes were read and are the end of the input; if it ends now, some may be lost. The input has ended only if the stream told that.
   pub record IsRead (old : Peer S) (result : Next) (new : Peer S) : Type 0 where
     pub given : List ℕ
     pub lost : List ℕ
@@ -176,31 +195,44 @@ module _ {S : Type 0} (told : S → Option Told) where
     pub output : new.connection.output ≡ old.connection.output
     pub number : new.state.number ≡ old.state.number
     pub drops : is_some new.state.drops ≡ is_some old.state.drops
-    pub unsent : new.state.unsent ≡ old.state.unsent
+    pub course : course_of new ≡ course_of old
     pub lossless : GoesOn result → lost ≡ []
+    pub ends : new.state.ended ≡ true → (old.state.ended ≡ true) ⊎ HasEnded (told new.stream)
 
   -- What a turn did, by what follows it. Nothing waits to be sent where bytes are to be answered or a content read.
   abbrev pub Turned : Peer S → List HeaderSpan → Next → Peer S → Type 0
   Turned old fields (Asks asked) new = Steps told old [] ⊤ new × (new.connection.output ≡ []) × (new.state.unsent ≡ None) × (new.state.drops ≡ None)
-      × IsAsked new.connection.input new.state.ended fields asked
+      × (new.state.outcome ≡ None) × IsAsked new.connection.input new.state.ended fields asked
   Turned old fields (Reads unsent) new = Steps told old [] ⊤ new × (new.connection.output ≡ []) × (new.state.unsent ≡ Some unsent) × (new.state.drops ≡ None)
   Turned old fields (Rests ending) new = Steps told old [] ((ending ≡ None) × (old.state.drops ≡ None)) new
   Turned old fields Closes new = Steps told old [] ⊥ new
 
--- A connection whose stream and output may have moved is else the same, but for what is left of a content.
+-- A connection whose stream and output may have moved is else the same, but for its course.
 pub record Beside {S : Type 0} (old new : Peer S) : Type 0 where
   pub input : new.connection.input ≡ old.connection.input
   pub number : new.state.number ≡ old.state.number
   pub drops : new.state.drops ≡ old.state.drops
+  pub ended : new.state.ended ≡ old.state.ended
 
 -- a connection whose stream, bytes and rest of a content are the same
-pub record Stands {S : Type 0} (old new : Peer S) : Type 0 where
+pub record Keeps {S : Type 0} (old new : Peer S) : Type 0 where
   pub stream : new.stream ≡ old.stream
   pub input : new.connection.input ≡ old.connection.input
   pub output : new.connection.output ≡ old.connection.output
   pub number : new.state.number ≡ old.state.number
   pub drops : new.state.drops ≡ old.state.drops
   pub unsent : new.state.unsent ≡ old.state.unsent
+  pub ended : new.state.ended ≡ old.state.ended
+
+-- a connection whose stream, bytes and course are the same
+pub record Stands {S : Type 0} (old new : Peer S) : Type 0 where
+  pub stream : new.stream ≡ old.stream
+  pub input : new.connection.input ≡ old.connection.input
+  pub output : new.connection.output ≡ old.connection.output
+  pub number : new.state.number ≡ old.state.number
+  pub drops : new.state.drops ≡ old.state.drops
+  pub ended : new.state.ended ≡ old.state.ended
+  pub course : course_of new ≡ course_of old
 
 -- ---- all connections
 

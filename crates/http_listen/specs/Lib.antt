@@ -1,12 +1,14 @@
 pub mod Asked
 pub mod Connections
 pub mod Conversations
+pub mod Courses
 pub mod Deeds
 pub mod Found
 pub mod Goes
 pub mod Holds
 pub mod LetsGo
 pub mod Lines
+pub mod Listed
 pub mod Listeners
 pub mod Marks
 pub mod NoMemory
@@ -17,3 +19,4 @@ pub mod Rests
 pub mod Stays
 pub mod Talks
 pub mod Ways
+pub mod Whys

@@ -1,5 +1,5 @@
 //! The connections of a listener.
-ghost use Rattle.std.specs.Prelude.{◌≡◌, ◌⊎◌, ◌<◌, ◌≤◌, ◌∷◌, [], ℕ, Result, List, None, Some, IsSome, take, drop, OnOk, OnErr};
+ghost use Rattle.std.specs.Prelude.{◌≡◌, ◌⊎◌, ◌<◌, ◌≤◌, ◌∷◌, [], ℕ, Result, List, None, Some, IsSome, IsTrue, take, drop, OnOk, OnErr};
 ghost use Rattle.http_listen.specs.Rests.{rest_after};
 ghost use Rattle.http_requests.specs.Frame.{IsNext};
 ghost use Rattle.http_requests.specs.Inputs.{IsAsked, IsFound};
@@ -15,7 +15,7 @@ ghost use Rattle.http_listen.specs.Connections.{Event, Serves, ComesTo, NextStre
 use crate::logs::Logs;
 use crate::peers::{Ending, Peer};
 use crate::pool::{Found, Pool, time_of};
-use crate::rests::{Unsent, add_part, once_sent};
+use crate::rests::{Unsent, add_part};
 use crate::step_time::StepTime;
 use crate::talks::Talks;
 use crate::waits::Waits;
@@ -86,6 +86,7 @@ where
     H: Prepares,
     W: Logs<S>,
     requires whole { peer.state.unsent ≡ None }
+    requires settled { peer.state.outcome ≡ None }
     requires fresh { peer.connection.input ≡ [] }
     requires sent { peer.connection.output ≡ [] }
     ensures comes { NextStretch H.replies handler.old handler.new }
@@ -94,7 +95,10 @@ where
 {
     pool.spare.refill();
     let outcome = serve_front(&mut peer, &pool.fields, NOTHING_ASKED, handler);
-    pool.opened(peer, once_sent(outcome), log);
+    let now = peer.state.since;
+    peer.answered(now, outcome, None);
+    let ending = peer.send_replies(now);
+    pool.opened(peer, ending, log);
 }
 
 /// When an act of a connection was over, and what it came to, if it ends.
@@ -146,6 +150,7 @@ where
     C: Clock,
     requires sent { peer.old.connection.output ≡ [] }
     requires whole { peer.old.state.unsent ≡ None }
+    requires settled { peer.old.state.outcome ≡ None }
     requires asked { IsAsked peer.old.connection.input peer.old.state.ended pool.old.fields asked }
     ensures comes { NextStretch H.replies handler.old handler.new }
     ensures places { pool.new.places ≡ pool.old.places }
@@ -178,6 +183,8 @@ where
     C: Clock,
     ensures stands { Stands peer.old peer.new }
     ensures goes_on { result.ending ≡ None }
+    // It isn't forgotten: it has another turn for the same bytes.
+    ensures asks { IsTrue peer.new.state.searches }
     ensures places { pool.new.places ≡ pool.old.places }
 {
     let now = pool.spend(clock, start);
@@ -258,6 +265,7 @@ where
     C: Clock,
     requires sent { peer.old.connection.output ≡ [] }
     requires whole { peer.old.state.unsent ≡ None }
+    requires settled { peer.old.state.outcome ≡ None }
     requires asked { IsAsked peer.old.connection.input peer.old.state.ended pool.old.fields asked }
     ensures comes { NextAnswer H.replies H.prepares handler.old handler.new }
     ensures places { pool.new.places ≡ pool.old.places }
@@ -297,6 +305,7 @@ where
     C: Clock,
     requires sent { peer.value.connection.output ≡ [] }
     requires whole { peer.value.state.unsent ≡ None }
+    requires settled { peer.value.state.outcome ≡ None }
     requires asked { IsAsked peer.value.connection.input peer.value.state.ended pool.old.fields asked }
     ensures comes { NextAnswer H.replies H.prepares handler.old handler.new }
     ensures acted { (acts : List Act) × Runs H.replies H.reads H.ticket_of H.prepares handler.old (deeds_of peer.value.state.number acts) handler.new

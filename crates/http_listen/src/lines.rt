@@ -8,7 +8,7 @@ use http_serve::{End, Served};
 use std::io::{self, Write};
 
 /// How many requests of a stretch got a whole reply.
-fn replied_requests(outcome: Result<Served, EndFault>) -> u64
+pub(crate) fn replied_requests(outcome: Result<Served, EndFault>) -> u64
     ensures { result ≡ replied_requests outcome }
 {
     match outcome {

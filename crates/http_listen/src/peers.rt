@@ -1,16 +1,26 @@
 //! Connections between two of their turns.
-ghost use Rattle.std.specs.Prelude.{◌≡◌, ◌≤◌, ◌<◌, ◌+◌, ◌∷◌, true, false, [], None, IsSome, IsTrue, IfOk, MatchResult, length, take, OnOk};
+ghost use Rattle.std.specs.Prelude.{◌≡◌, ◌≢◌, ◌≤◌, ◌<◌, ◌+◌, ◌∷◌, true, false, [], None, Some, Ok, Err, IsSome, IsTrue, IfErr, IfOk, IfSome, MatchResult, length, take, OnOk};
 ghost use Rattle.std.specs.Io.{WritesAtMost};
 ghost use Rattle.std.specs.Io.KnownBytes.{Appends};
-ghost use Rattle.http_listen.specs.Conversations.{Beside, Ends, IsEnded, IsRead, IsSearched, Stands, Steps};
+ghost use Rattle.http_listen.specs.Conversations.{Beside, Ends, IsEnded, IsRead, IsSearched, Keeps, Stands, Steps};
+ghost use Rattle.http_listen.specs.Courses.{GoesOnAfter, counted, course_of, settled};
 ghost use Rattle.http_listen.specs.Goes.{Closes};
 ghost use Rattle.http_listen.specs.Holds.{hold_after};
 ghost use Rattle.http_listen.specs.Lines.{line_of};
+ghost use Rattle.http_listen.specs.Rests.{once_sent};
+ghost use Rattle.http_listen.specs.Listed.{IsListed};
 ghost use Rattle.http_listen.specs.Marks.{Adds, at_closing};
 ghost use Rattle.http_listen.specs.Talks.{Grows, Moves};
 ghost use Rattle.http_listen.specs.Ways.{MayGiveWay};
+ghost use Rattle.http_listen.specs.Whys.{IsSent, Owes};
+ghost use Rattle.http_listen.specs.declared.ends.EndFault.TheVariants.{Memory, Read, Write, Unconfirmed};
+ghost use Rattle.http_listen.specs.declared.peers.GivenUp.TheVariants.{Held, Late};
+ghost use Rattle.http_listen.specs.declared.turns.Next.TheVariants.{Rests};
+ghost use Rattle.http_serve.specs.Buffers.{buffer_size};
+ghost use Rattle.http_serve.specs.declared.connection.End.TheVariants.{Closed, Turns};
 
 use crate::ends::EndFault;
+use crate::lines::replied_requests;
 use crate::logs::Logs;
 use crate::no_memory::memory_reply;
 use crate::paces::{Pace, Stage, nanoseconds_of};
@@ -81,12 +91,10 @@ pub(crate) struct State {
     pub(crate) ended: bool,
     /// Whether the input is searched for a request before more is read.
     pub(crate) searches: bool,
-    /// What its last stretch came to. The output has its replies.
-    pub(crate) outcome: Result<Served, EndFault>,
+    /// What its last stretch came to, unless its replies were sent and it goes on. The output has them.
+    pub(crate) outcome: Ending,
     /// The rest of the last reply's content, which is read once the output was sent.
     pub(crate) unsent: Option<Unsent>,
-    /// Whether the connection ends once they are sent.
-    pub(crate) last: bool,
     /// If the connection has ended: how many of the bytes that its peer still sends are dropped.
     pub(crate) drops: Option<usize>,
     /// When the time that its peer has left was counted.
@@ -122,6 +130,9 @@ impl<S> Peer<S> {
         ensures output { result.connection.output ≡ [] }
         ensures unsent { result.state.unsent ≡ None }
         ensures drops { result.state.drops ≡ None }
+        ensures ended { result.state.ended ≡ false }
+        ensures outcome { result.state.outcome ≡ None }
+        ensures requests { result.state.requests ≡ 0 }
     {
         let state = State {
             number,
@@ -129,9 +140,8 @@ impl<S> Peer<S> {
             reads: 0,
             ended: false,
             searches: false,
-            outcome: NOTHING,
+            outcome: None,
             unsent: None,
-            last: false,
             drops: None,
             since: now,
             ready: Readiness::new(),
@@ -152,6 +162,7 @@ impl<S> Peer<S> {
     pub(crate) fn sends(&self) -> bool
         ensures sent { result ≡ false → self.now.connection.output ≡ [] }
         ensures whole { result ≡ false → self.now.state.unsent ≡ None }
+        ensures some { result ≡ true → Owes self.now }
     {
         self.connection.has_output() || self.state.unsent.is_some()
     }
@@ -165,7 +176,9 @@ impl<S> Peer<S> {
     }
 
     /// The list that it is to be in, at this key.
-    pub(crate) fn list(&self, key: usize) -> List {
+    pub(crate) fn list(&self, key: usize) -> List
+        ensures { IsListed self.now result }
+    {
         if self.state.rests.is_some() {
             return List::Resting;
         }
@@ -233,7 +246,14 @@ impl<S> Peer<S> {
     }
 
     /// What it comes to if its peer is waited for no longer.
-    pub(crate) fn given_up(&self, why: GivenUp) -> Result<Served, EndFault> {
+    pub(crate) fn given_up(&self, why: GivenUp) -> Result<Served, EndFault>
+        ensures unconfirmed { IsSome self.now.state.hold → result ≡ Err (Unconfirmed 0) }
+        ensures write { self.now.state.hold ≡ None → Owes self.now → result ≡ Err (Write 0) }
+        ensures memory { self.now.state.hold ≡ None → IsSent self.now → why ≡ Held → result ≡ Err Memory }
+        ensures read { self.now.state.hold ≡ None → IsSent self.now → why ≡ Late → 0 < length self.now.connection.input → result ≡ Err (Read 0) }
+        ensures closed { self.now.state.hold ≡ None → IsSent self.now → why ≡ Late → self.now.connection.input ≡ []
+            → result ≡ Ok (record { requests = 0; end = Closed }) }
+    {
         if self.state.hold.is_some() {
             Err(EndFault::Unconfirmed { requests: 0 })
         } else if self.sends() {
@@ -268,7 +288,9 @@ impl<S> Peer<S> {
     /// Another step is to be made before the first bytes of its input are answered. It is found with them again in its next turn, and
     /// its peer isn't waited for until then.
     pub(crate) fn put_off(&mut self, now: Duration, start: Duration)
-        ensures { Stands self.old self.new }
+        ensures stands { Stands self.old self.new }
+        ensures searches { IsTrue self.new.state.searches }
+        ensures rests { self.new.state.rests ≡ self.old.state.rests }
     {
         self.state.searches = true;
         self.state.since = now;
@@ -289,7 +311,9 @@ impl<S> Peer<S> {
 
     /// The same, but it has no turn before it is woken, for as long at most.
     pub(crate) fn rest(&mut self, now: Duration, start: Duration, longest: Duration)
-        ensures { Stands self.old self.new }
+        ensures stands { Stands self.old self.new }
+        ensures searches { IsTrue self.new.state.searches }
+        ensures rests { IsSome self.new.state.rests }
     {
         self.put_off(now, start);
         self.state.rests = Some(nanoseconds_of(now.saturating_add(longest)));
@@ -323,39 +347,68 @@ impl<S> Peer<S> {
         outcome: Result<Answer, AllocError>,
         hold: Option<Hold>,
     )
-        ensures stands { Stands self.old self.new }
+        ensures keeps { Keeps self.old self.new }
         ensures hold { self.new.state.hold ≡ hold }
+        ensures outcome { self.new.state.outcome ≡ Some (once_sent outcome) }
+        ensures requests { self.new.state.requests ≡ self.old.state.requests }
     {
         self.state.asked = None;
         self.state.hold = hold;
-        let outcome = once_sent(outcome);
-        let goes_on = matches!(
-            outcome,
-            Ok(Served {
-                end: End::Closed,
-                ..
-            })
-        );
-        self.state.last = !goes_on || (self.state.ended && self.connection.input_len() == 0);
-        self.state.outcome = outcome;
+        self.state.outcome = Some(once_sent(outcome));
         self.state.ready.writes = true;
         self.state.since = now;
     }
 
-    /// The replies of its last stretch were sent.
+    /// What it comes to now that the replies of its last stretch were sent, if it ends: it goes on only if more may follow.
+    pub(crate) fn ending(&self) -> Ending
+        ensures goes_on { result ≡ None → GoesOnAfter self.now.state.outcome }
+        ensures is { IfSome result (λ outcome. self.now.state.outcome ≡ Some outcome) }
+        ensures last { IfSome result (λ outcome. GoesOnAfter (Some outcome) → (self.now.state.ended ≡ true) × (self.now.connection.input ≡ [])) }
+    {
+        match self.state.outcome {
+            Some(
+                Ok(
+                    Served {
+                        end: End::Closed,
+                        requests: _,
+                    },
+                ),
+            ) => {
+                if self.state.ended && self.connection.input_len() == 0 {
+                    self.state.outcome
+                } else {
+                    None
+                }
+            }
+            outcome => outcome,
+        }
+    }
+
+    /// The replies of its last stretch were sent, and it goes on.
     pub(crate) fn replied(&mut self, now: Duration)
-        requires { self.old.connection.output ≡ [] }
-        ensures stands { Stands self.old self.new }
+        requires sent { self.old.connection.output ≡ [] }
+        requires whole { self.old.state.unsent ≡ None }
+        ensures keeps { Keeps self.old self.new }
         ensures hold { self.new.state.hold ≡ self.old.state.hold }
+        ensures settled { course_of self.new ≡ settled (course_of self.old) }
     {
         self.connection.clear_output();
-        if let Ok(served) = self.state.outcome {
-            self.state.requests = self.state.requests.saturating_add(served.requests);
-        }
+        self.state.requests = counted(self.state.requests, self.state.outcome);
+        self.state.outcome = None;
         self.state.searches = self.connection.input_len() > 0 || self.state.ended;
         if !self.state.searches {
             self.begin_read(now);
         }
+    }
+}
+
+/// How many requests got a whole reply, once the replies are sent of a stretch that came to this.
+fn counted(requests: u64, outcome: Ending) -> u64
+    ensures { result ≡ counted requests outcome }
+{
+    match outcome {
+        Some(outcome) => replied_requests(outcome).saturating_add(requests),
+        None => requests,
     }
 }
 
@@ -488,8 +541,13 @@ impl<S: Talks> Peer<S> {
         piece: &mut [u8],
         fields: &mut FieldSpans,
     ) -> Next
+        requires { 0 < length piece.old }
         ensures read { IsRead S.told self.old result self.new }
         ensures searched { IsSearched self.new.connection.input self.new.state.ended fields.new result }
+        ensures turns { result ≡ Rests (Some (Ok (record { requests = 0; end = Turns }))) → max_reads ≤ self.old.state.reads }
+        // As long as there is memory, no request is refused for want of it.
+        ensures memory { is_full ≡ false → IsTrue self.old.connection.reserved → length self.old.connection.input < buffer_size
+            → result ≢ Rests (Some (Err Memory)) }
     {
         if self.state.reads >= max_reads {
             return Next::Rests(Some(TURNS));
@@ -497,8 +555,10 @@ impl<S: Talks> Peer<S> {
         if is_full && self.connection.input_len() > 0 {
             return Next::Rests(Some(Err(EndFault::Memory)));
         }
+        // At least one byte is asked for, so that a read that gives none has found the end.
         let space = MAX_REQUEST
             .saturating_sub(self.connection.input_len())
+            .max(1)
             .min(piece.len());
         let count = match self.stream.receive(&mut piece[..space]) {
             Ok(count) => count,
@@ -553,9 +613,10 @@ impl<S: Talks> Peer<S> {
         requires { self.old.state.hold ≡ None }
         ensures moves { Moves (S.told self.old.stream) self.old.connection.output [] [] (S.told self.new.stream) self.new.connection.output }
         ensures beside { Beside self.old self.new }
-        ensures unsent { self.new.state.unsent ≡ self.old.state.unsent }
+        ensures course { course_of self.new ≡ course_of self.old }
         ensures most { length self.old.connection.output ≤ length self.new.connection.output + most }
         ensures free { self.new.state.hold ≡ None }
+        ensures fault { IfErr result (λ fault. fault ≡ Write 0) }
         ensures left { IfOk result (λ left. length self.old.connection.output + left ≤ length self.new.connection.output + most) }
     {
         let piece = self.connection.piece();
@@ -583,14 +644,20 @@ impl<S: Talks> Peer<S> {
         requires { self.old.state.hold ≡ None }
         ensures moves { Moves (S.told self.old.stream) self.old.connection.output [] [] (S.told self.new.stream) self.new.connection.output }
         ensures beside { Beside self.old self.new }
-        ensures unsent { self.new.state.unsent ≡ self.old.state.unsent }
+        ensures course { course_of self.new ≡ course_of self.old }
         ensures free { self.new.state.hold ≡ None }
+        ensures fault { IfErr result (λ fault. fault ≡ Write 0) }
         // No peer takes more in a turn, however much waits for it.
         ensures most { length self.old.connection.output ≤ length self.new.connection.output + MAX_WRITE }
     {
-        let left = self.send_piece(now, MAX_WRITE)?;
+        let left = match self.send_piece(now, MAX_WRITE) {
+            Ok(left) => left,
+            Err(fault) => return Err(fault),
+        };
         if left > 0 && self.connection.has_output() {
-            self.send_piece(now, left)?;
+            if let Err(fault) = self.send_piece(now, left) {
+                return Err(fault);
+            }
         }
         self.end_share();
         Ok(())

@@ -9,7 +9,6 @@ ghost use Rattle.http_listen.specs.LetsGo.{KeepsHolds, LetsGo};
 ghost use Rattle.http_listen.specs.Stays.{AllStand};
 
 use crate::deadlines::Deadlines;
-use crate::ends::EndFault;
 use crate::logs::Logs;
 use crate::peers::{Ending, GivenUp, PIECE, Peer};
 use crate::places::{List, Places};
@@ -19,7 +18,7 @@ use crate::talks::Talks;
 use crate::turns::Next;
 use crate::waits::Waits;
 use http_requests::{FieldSpans, NO_FIELDS};
-use http_serve::{Asked, Preparation, Served, Spare};
+use http_serve::{Asked, Preparation, Spare};
 use std::alloc::Global;
 use std::net::OpenStream;
 use std::time::{Clock, Duration};
@@ -255,13 +254,8 @@ impl<S: Talks + OpenStream + Drop> Pool<S> {
     }
 
     /// Keeps a new connection, which has its first turn next, unless it couldn't be served. If memory runs out, it is closed.
-    pub(crate) fn opened<W: Logs<S>>(
-        &mut self,
-        peer: Peer<S>,
-        outcome: Result<Served, EndFault>,
-        log: &mut W,
-    )
-        ensures { Passes S.told (W.marks log.old) (peer_at self.old.places) (Some peer) ⊤
+    pub(crate) fn opened<W: Logs<S>>(&mut self, peer: Peer<S>, ending: Ending, log: &mut W)
+        ensures { Passes S.told (W.marks log.old) (peer_at self.old.places) (Some peer) (ending ≡ None)
             (W.marks log.new) (peer_at self.new.places) None ⊤ }
     {
         let peer = match Box::new(self.alloc, peer) {
@@ -271,8 +265,8 @@ impl<S: Talks + OpenStream + Drop> Pool<S> {
                 return;
             }
         };
-        if outcome.is_err() {
-            return self.keep_or_end(peer.state.since, peer, Some(outcome), log);
+        if ending.is_some() {
+            return self.keep_or_end(peer.state.since, peer, ending, log);
         }
         if let Some(key) = self.keep(peer, log) {
             self.places.move_first(key);

@@ -1,7 +1,7 @@
 //! Streams that tell what they gave and took.
-ghost use Rattle.std.specs.Prelude.{[], take, None, Option, MatchResult};
+ghost use Rattle.std.specs.Prelude.{◌≡◌, ◌<◌, [], length, take, None, Option, IfOk, MatchResult};
 ghost use Rattle.std.specs.Io.{ReadsAtMost, WritesAtMost};
-ghost use Rattle.http_listen.specs.Talks.{Told, Grows};
+ghost use Rattle.http_listen.specs.Talks.{Told, Grows, HasEnded};
 
 use std::io::{self, Read, Write};
 use std::net::TcpStream;
@@ -9,10 +9,10 @@ use std::net::TcpStream;
 /// A stream of bytes in both directions. What is proved of a connection is said in what its stream told: that of every stream, also of one
 /// that tells nothing, since what serves them can't see which it is.
 pub trait Talks {
-    /// The bytes that its reads gave and that its writes took, up to now, if this is known.
+    /// The bytes that its reads gave and that its writes took, up to now, and where it ends, if a read told that; if this is known.
     ghost told: { Self → Option Told } = { λ _. None };
 
-    /// Makes one read, which takes nothing.
+    /// Makes one read, which takes nothing. If it gives nothing, it tells that the stream has ended.
     ///
     /// # Errors
     ///
@@ -20,7 +20,8 @@ pub trait Talks {
     fn receive(&mut self, buf: &mut [u8]) -> io::Result<usize>
         ensures bound { ReadsAtMost result buf.new }
         ensures told { MatchResult result (λ n. Grows (told self.old) (take n buf.new) [] (told self.new))
-            (λ _. Grows (told self.old) [] [] (told self.new)) };
+            (λ _. Grows (told self.old) [] [] (told self.new)) }
+        ensures ends { IfOk result (λ n. n ≡ 0 → 0 < length buf.old → HasEnded (told self.new)) };
 
     /// Makes one write, which gives nothing.
     ///

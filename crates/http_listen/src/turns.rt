@@ -1,7 +1,13 @@
 //! The turn of a connection: a read, or a write.
-ghost use Rattle.std.specs.Prelude.{◌≡◌, [], None, Some, Err, IfOk, IfErr, IsSome, OnErr};
+ghost use Rattle.std.specs.Prelude.{◌≡◌, ◌<◌, [], None, Some, Err, IfOk, IfErr, IfSome, IsSome, OnErr, Result, length};
 ghost use Rattle.http_listen.specs.Conversations.{Beside, Stands, IsSearched, Turned};
+ghost use Rattle.http_listen.specs.Courses.{Course, Settles, course_of};
 ghost use Rattle.http_listen.specs.Talks.{Moves};
+ghost use Rattle.http_listen.specs.Whys.{EndsSending};
+ghost use Rattle.http_listen.specs.declared.ends.EndFault.{EndFault};
+ghost use Rattle.http_listen.specs.declared.ends.EndFault.TheVariants.{Read};
+ghost use Rattle.http_listen.specs.declared.turns.Next.TheVariants.{Rests};
+ghost use Rattle.http_serve.specs.declared.connection.Served.{Served};
 
 use crate::ends::EndFault;
 use crate::peers::{Ending, Peer};
@@ -33,7 +39,8 @@ impl<S: Talks> Peer<S> {
         ensures hold { self.new.state.hold ≡ self.old.state.hold }
         ensures moves { Moves (S.told self.old.stream) self.old.connection.output [] [] (S.told self.new.stream) self.new.connection.output }
         ensures beside { Beside self.old self.new }
-        ensures unsent { self.new.state.unsent ≡ self.old.state.unsent }
+        ensures settles { Settles (course_of self.old) (course_of self.new) }
+        ensures why { IfSome result (EndsSending self.old self.new) }
     {
         if self.state.hold.is_some() {
             return None;
@@ -50,11 +57,13 @@ impl<S: Talks> Peer<S> {
                 None
             };
         }
-        if self.state.last {
-            return Some(self.state.outcome);
+        match self.ending() {
+            Some(outcome) => Some(outcome),
+            None => {
+                self.replied(now);
+                None
+            }
         }
-        self.replied(now);
-        None
     }
 
     /// The next part of a content was added to the output, and this is left of it: begins to send it. Or it couldn't be, and the connection
@@ -66,9 +75,10 @@ impl<S: Talks> Peer<S> {
     ) -> Ending
         ensures moves { Moves (S.told self.old.stream) self.old.connection.output [] [] (S.told self.new.stream) self.new.connection.output }
         ensures beside { Beside self.old self.new }
-        ensures unsent { IfOk outcome (λ left. self.new.state.unsent ≡ left) }
+        ensures settles { IfOk outcome (λ left. Settles (record { left = left; outcome = self.old.state.outcome; requests = self.old.state.requests })
+            (course_of self.new)) }
         ensures failed { IfErr outcome (λ fault. result ≡ Some (Err fault)) }
-        ensures rest { OnErr outcome (self.new.state.unsent ≡ self.old.state.unsent) }
+        ensures rest { OnErr outcome (course_of self.new ≡ course_of self.old) }
     {
         match outcome {
             Ok(unsent) => {
@@ -86,6 +96,8 @@ impl<S> Peer<S> {
     pub(crate) fn search(&mut self, now: Duration, fields: &mut FieldSpans) -> Next
         ensures stands { Stands self.old self.new }
         ensures searched { IsSearched self.new.connection.input self.new.state.ended fields.new result }
+        // It ends only if its time is used up.
+        ensures late { (outcome : Result Served EndFault) → result ≡ Rests (Some outcome) → (outcome ≡ Err (Read 0)) × (self.new.pace.left ≡ 0) }
     {
         if let Some(asked) = self.connection.find(self.state.ended, fields) {
             self.pace = self.pace.writes();
@@ -111,6 +123,7 @@ impl<S: Talks> Peer<S> {
         piece: &mut [u8],
         fields: &mut FieldSpans,
     ) -> Next
+        requires { 0 < length piece.old }
         ensures { Turned S.told self.old fields.new result self.new }
     {
         if self.connection.has_output() {
@@ -125,6 +138,11 @@ impl<S: Talks> Peer<S> {
         }
         if let Some(unsent) = self.state.unsent {
             return Next::Reads(unsent);
+        }
+        // Nothing is read, searched or answered before it is known that it goes on.
+        if self.state.outcome.is_some() {
+            let ending = self.send_replies(now);
+            return Next::Rests(ending);
         }
         if self.state.searches {
             return self.search(now, fields);

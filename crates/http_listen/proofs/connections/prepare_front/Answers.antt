@@ -29,7 +29,7 @@ returns-then-puts_off-clause-acts g c =
       prepared_first bytes made.0 [],
       runs_prepared g.H.Handler.replies g.H.Downloads.reads g.H.Downloads.ticket_of g.H.Prepares.prepares c.args.peer.now.state.number
           bytes made.0 [] _ _ _ made.1 refl,
-      steps_before told bytes made.0 c.args.peer.now new [] whole c.requires.whole (steps_stand told c.args.peer.now new whole c.put_off.ensures.stands),
+      steps_before told bytes made.0 c.args.peer.now new [] whole c.requires.whole c.requires.settled (steps_stand told c.args.peer.now new whole c.put_off.ensures.stands),
     )
 
 pub returns-clause-acts : goal.returns-clause-acts
@@ -40,5 +40,6 @@ returns-clause-acts g c =
       prepared_first bytes made.0 (did.0 ∷ []),
       runs_prepared g.H.Handler.replies g.H.Downloads.reads g.H.Downloads.ticket_of g.H.Prepares.prepares c.args.peer.now.state.number
           bytes made.0 (did.0 ∷ []) _ _ _ made.1 (c.answer_front.new.handler, did.1, refl),
-      steps_before g.S.Talks.told bytes made.0 c.args.peer.now c.answer_front.new.peer (did.0 ∷ []) (c.answer_front.result.ending ≡ None) c.requires.whole did.2,
+      steps_before g.S.Talks.told bytes made.0 c.args.peer.now c.answer_front.new.peer (did.0 ∷ []) (c.answer_front.result.ending ≡ None) c.requires.whole
+          c.requires.settled did.2,
     )

@@ -4,6 +4,7 @@ use Rattle.http_listen.specs.Conversations.{deeds_of}
 use Rattle.http_listen.specs.Places.{peer_at}
 use Rattle.http_listen.proofs.AllLemmas.{runs_both}
 use Rattle.http_listen.proofs.Laws.{serves_first, serves_answer, serves_part}
+use Rattle.http_listen.proofs.StepLemmas.{course_is}
 use Rattle.http_listen.proofs.Sessions.{Session, session_none, session_goes, session_acts, session_new, are_over, in_order}
 use Rattle.http_listen.proofs.connections.serve_on.Goals.{in-New, in-Asks, in-Reads, in-Nothing, else-turns-test, then-turns-test+in-Over}
 use Rattle.http_listen.proofs.connections.serve_on.Goals as goal
@@ -36,7 +37,8 @@ turns-preserved g c =
               done.0 ++ deeds_of peer.state.number (act.0 ∷ []),
               runs_both replies reads tickets prepares c.args.handler.now c.turns.handler w.open.new.handler done.0
                   (deeds_of peer.state.number (act.0 ∷ [])) done.1 (w.open.new.handler, act.1, refl),
-              session_new told peer (act.0 ∷ []) w.in-New.stream done.2 w.in-New.ensures.goes made.number made.stream made.input made.output made.unsent
+              session_new told peer (act.0 ∷ []) w.in-New.stream done.2 w.in-New.ensures.goes made.number made.stream made.input made.output
+                  (course_is made.unsent made.outcome made.requests) made.ended
                   w.opened.ensures.opens act.2,
             )
             ),

@@ -1,8 +1,9 @@
-use Rattle.std.proofs.Common.{◌≡◌, ◌++◌, ◌∙◌, [], ℕ, refl, sym, ap, subst, take, append-nil, arith}
+use Rattle.std.proofs.Common.{◌≡◌, ◌++◌, ◌∙◌, [], ℕ, refl, sym, ap, subst, take, append-nil, arith, true, inl, inr}
 use Rattle.std.proofs.lemmas.Grind.{common_steps}
-use Rattle.std.specs.Prelude.{is_some}
+use Rattle.std.specs.Prelude.{◌⊎◌, is_some}
 use Rattle.http_serve.specs.Connections.{ConnectionView}
-use Rattle.http_listen.specs.Talks.{Grows}
+use Rattle.http_listen.specs.Courses.{course_of}
+use Rattle.http_listen.specs.Talks.{Grows, HasEnded}
 use Rattle.http_listen.proofs.StepLemmas.{none_read}
 use Rattle.http_listen.proofs.peers.Peer.receive.Goals.{then-count-eq0, else-count-eq0+else-is_err}
 use Rattle.http_listen.proofs.peers.Peer.receive.Goals as goal
@@ -25,8 +26,9 @@ returns-then-is_err-clause-read g c =
       output = ap (λ (v : ConnectionView). v.output) same;
       number = refl;
       drops = refl;
-      unsent = refl;
+      course = refl;
       lossless = λ w. absurd w;
+      ends = λ ended. inl ended;
     }
 
 pub returns-in-Err-clause-read : goal.returns-in-Err-clause-read
@@ -41,8 +43,9 @@ returns-in-Err-clause-read g c =
       output = same.output;
       number = same.number;
       drops = ap is_some same.drops;
-      unsent = same.unsent;
+      course = same.course;
       lossless = λ _. refl;
+      ends = λ ended. inl (sym same.ended ∙ ended);
     }
 
 pub returns-in-Err-2-clause-read : goal.returns-in-Err-2-clause-read
@@ -57,8 +60,9 @@ returns-in-Err-2-clause-read g c =
       output = same.output;
       number = same.number;
       drops = ap is_some same.drops;
-      unsent = same.unsent;
+      course = same.course;
       lossless = λ _. refl;
+      ends = λ ended. inl (sym same.ended ∙ ended);
     }
 
 pub returns-clause-read : goal.returns-clause-read
@@ -70,7 +74,8 @@ returns-clause-read g c =
     let stands = c.search.ensures.stands in
     let facts : (mid.stream ≡ c.receive.new.self) × (mid.connection.input ≡ old.connection.input ++ given)
     × (mid.connection.output ≡ old.connection.output) × (mid.state.number ≡ old.state.number)
-    × (mid.state.drops ≡ old.state.drops) × (mid.state.unsent ≡ old.state.unsent) =
+    × (mid.state.drops ≡ old.state.drops) × (course_of mid ≡ course_of old)
+    × (mid.state.ended ≡ true → (old.state.ended ≡ true) ⊎ HasEnded (told mid.stream)) =
     elim c.if-count-eq0.branch [
       | then-count-eq0 w ↦ rw w.self-is (
         refl,
@@ -79,10 +84,11 @@ returns-clause-read g c =
         refl,
         refl,
         refl,
+        λ ended. inr (c.in-Ok.ensures.ends w.if-count-eq0.true (grind (arith, common_steps))),
       )
       | else-count-eq0+else-is_err w ↦
           let grown : w.receive-else-count-eq0.new.self ≡ record old.connection { input = old.connection.input ++ given } = grind (arith, common_steps) in
-          rw w.self-is (refl, ap (λ (v : ConnectionView). v.input) grown, ap (λ (v : ConnectionView). v.output) grown, refl, refl, refl)
+          rw w.self-is (refl, ap (λ (v : ConnectionView). v.input) grown, ap (λ (v : ConnectionView). v.output) grown, refl, refl, refl, λ ended. inl ended)
     ] in
     record {
       given = given;
@@ -92,6 +98,7 @@ returns-clause-read g c =
       output = stands.output ∙ facts.2;
       number = stands.number ∙ facts.3;
       drops = ap is_some (stands.drops ∙ facts.4);
-      unsent = stands.unsent ∙ facts.5;
+      course = stands.course ∙ facts.5;
       lossless = λ _. refl;
+      ends = λ ended. subst (λ s. (old.state.ended ≡ true) ⊎ HasEnded (told s)) (sym stands.stream) (facts.6 (sym stands.ended ∙ ended));
     }
