@@ -9,3 +9,6 @@ pub mod GeometryLaws
 pub mod TagLaws
 pub mod FaultLaws
 pub mod CheckedLaws
+mod ProperLemmas
+mod ListedLemmas
+mod CutLemmas

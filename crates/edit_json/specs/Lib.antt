@@ -3,6 +3,7 @@ pub mod Batches
 pub mod Checked
 pub mod Faults
 pub mod Json
+pub mod Listed
 pub mod Lists
 pub mod Numbered
 pub mod Outline

@@ -10,6 +10,7 @@
 mod batches;
 mod checked;
 mod edits;
+mod laws;
 mod lists;
 mod outline;
 mod reading;
@@ -19,5 +20,6 @@ mod writer;
 pub use batches::batch_from_json;
 pub use checked::checked_from_json;
 pub use edits::{delete_to_json, numbered_to_json, put_to_json};
+pub use laws::{a_body_of_its_changes_is_its_batch, lengths_of_texts, listed_text_is_its_edit};
 pub use reading::feature_from_json;
 pub use writer::feature_to_json;
