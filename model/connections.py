@@ -270,12 +270,15 @@ ADMIN_ROUTES = [
     (rb"/admin/edits", "checked", "POST"),
     (rb"/admin/edits/from/" + NUMBER, "feed", "GET, HEAD"),
     (rb"/admin/edits/at/" + NUMBER, "numbered", "POST"),
+    (rb"/admin/features/" + NUMBER + rb"/at/" + NUMBER, "numbered feature", "PUT"),
 ]
 
 
 def is_in_range(name, numbers):
     if name in ("feature", "from", "page", "feed", "numbered"):
         return numbers[0] < 2**63
+    if name == "numbered feature":
+        return max(numbers) < 2**63
     return name != "tile" or numbers[0] <= MAX_ZOOM and max(numbers[1:]) < 2 ** numbers[0]
 
 
@@ -453,6 +456,18 @@ def on_feature(service, number, request, wants):
     return json_reply({"edit": service.put(*change) if change else service.delete(number)})
 
 
+def numbered_feature(service, number, edit, request, wants):
+    """A feature that is set if the edit gets this number. The body is read before the numbers are compared, and then what is there is looked at."""
+    if wants == "never":
+        return refusal(412, "Condition")
+    change = as_stored(Change(number, read_body(request.body, features.feature_of)))
+    if listings.next_number(service) != edit:
+        return refusal(409, f"Next {service.last + 1}")
+    if not meets(wants, number in service.map):
+        return refusal(412, "Condition")
+    return json_reply({"edit": service.put(*change)})
+
+
 def first_from(service, number):
     found = service.first_from(number)
     if found is None:
@@ -502,6 +517,8 @@ def reply_to(service, request, is_admin):
             return checked_batch(service, request.body)
         if name == "numbered":
             return numbered_batch(service, numbers[0], request.body)
+        if name == "numbered feature":
+            return numbered_feature(service, *numbers, request, wants)
         if name == "page":
             return json_reply(listings.page(service, numbers[0]))
         if name == "feed":

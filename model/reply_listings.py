@@ -1,9 +1,10 @@
 """Blocks of `reply_script.py` about what is listed under `/admin/`: edits since the last publication, and features by pages; and about edits that are made
 only if they get a number."""
 import tiles
+from connections import MAX_BODY
 from reply_admin import LAST, METHODS, NO_NUMBERS, batch_of, get
 from reply_edits import deletes, sets
-from reply_stand import BEGIN, BODY, CANCEL, PUBLISH, STEP, WORLD, large_put, put, request, spelled, tagged, with_point
+from reply_stand import BEGIN, BODY, CANCEL, PUBLISH, STEP, WORLD, Often, large_put, put, request, spelled, spelled_parts, tagged, with_point
 
 FEED, PAGE, AT = "/admin/edits/from/", "/admin/features/page/", "/admin/edits/at/"
 NOT_SERVED = ["/admin/edits/", "/admin/edits/from", "/admin/edits/from/1/", "/admin/edits/from/1/2", "/admin/edits/1", "/admin/edits/at", "/admin/edits/at/1/",
@@ -192,4 +193,56 @@ def numbered(script):
     script.ask(*(at(number, sets(number)) for number in range(1, 19)), PUBLISH, at(17, sets(17)), at(18, sets(18)), *edits(17))
 
 
-BLOCKS = [who_may_ask, listed, published, ring, versions, bounds, failing, broken, paged, page_bounds, numbered]
+def set_at(number, edit, feature=None, *fields):
+    """The request of a feature under a number."""
+    body = BODY if feature is None else spelled(feature)
+    return request("PUT", f"/admin/features/{number}/at/{edit}", body, *fields)
+
+
+def longest_at(number, edit):
+    """The request of a feature under a number whose body has as many bytes as a body may have, none of them to spare."""
+    front, point, back = b'{"layer":"p","minzoom":0,"maxzoom":0,"tags":{"t":"', b"[4000000000,4000000000]", b"]}}"
+    middle = b'"},"geometry":{"points":['
+    points, letters = divmod(MAX_BODY - len(front + middle + point + back), len(point) + 1)
+    parts = [front, Often(letters, b"a"), middle, Often(points, point + b","), point + back]
+    assert len(spelled_parts(parts)[0]) == MAX_BODY
+    return [f"PUT /admin/features/{number}/at/{edit} HTTP/1.1\r\nhost: x\r\ncontent-length: {MAX_BODY}\r\n\r\n".encode(), *parts]
+
+
+def numbered_features(script):
+    script.say("A feature under a number: only where the paths under /admin/ are served, by PUT alone, with numbers below 2^63.")
+    with_point(script)
+    for opening in (script.again, script.admin):
+        opening()
+        for method in METHODS:
+            script.ask(request(method, "/admin/features/7/at/9", BODY if method == "PUT" else b""))
+        script.ask(*get("/admin/features/7/at/", "/admin/features/7/at", "/admin/features//at/2", "/admin/features/at/2", "/admin/features/7/at/2/", "/features/7/at/2"))
+        script.ask(*(part for number in NO_NUMBERS for part in get(f"/admin/features/{number}/at/2", f"/admin/features/7/at/{number}")))
+    script.note("The next one, one that is sent again, and others, between edits of other kinds.")
+    for sizes in ("4096", "1"):
+        begin(script)
+        script.ask(set_at(7, 0), set_at(7, 2), set_at(7, 1), set_at(7, 1), set_at(8, 2, ODD), set_at(7, LAST), at(3, deletes(7)), set_at(7, 3), set_at(7, 4), put(9),
+                   set_at(0, 6), set_at(2**63 - 1, 7), *edits(1), sizes=sizes)
+    script.note("What is refused takes no number; the body is read before the numbers are compared.")
+    for body in (b"", b"{", b"{}", BODY + b" ", BODY.replace(b'"p"', b'""')):
+        script.ask(*(request("PUT", f"/admin/features/3/at/{edit}", body) for edit in (8, 9)))
+    script.ask(*edits(7))
+    script.note("After a publication, in one, and once the disk is opened again.")
+    script.ask(PUBLISH, set_at(5, 9), set_at(5, 10), BEGIN, set_at(6, 10), STEP, set_at(6, 11), *edits(10))
+    script.admin()
+    script.ask(set_at(7, 11), set_at(7, 12), *edits(11))
+    script.note("Conditions, where replies have tags: the number is compared first.")
+    script.tags(5)
+    script.admin()
+    for field in ("if-match: *", "if-none-match: *", "if-match: x", 'if-none-match: "x"'):
+        script.ask(*(set_at(number, edit, None, field) for number in (7, 70) for edit in (1, 13, 14, 15)))
+    script.tags()
+    script.note("A feature for whose text a body of changes has no room is set under its number, and takes no more than the body.")
+    begin(script, 1024)
+    script.ask(*longest_at(1, 1), *longest_at(1, 1), *longest_at(1, 2), *get(FEED + "3"))
+    script.note("A full journal.")
+    begin(script, 64)
+    script.ask(*(set_at(number, number) for number in range(1, 19)), PUBLISH, set_at(17, 17), set_at(18, 18), *edits(17))
+
+
+BLOCKS = [who_may_ask, listed, published, ring, versions, bounds, failing, broken, paged, page_bounds, numbered, numbered_features]

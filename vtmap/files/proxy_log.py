@@ -24,8 +24,8 @@ class Sent(NamedTuple):
     time: float
 
 
-FEATURE = re.compile(r"(PUT|DELETE) /features/([0-9]+)(?:\?.*)?")
-NUMBERED = re.compile(r"POST /admin/edits/at/([0-9]+)")
+FEATURE = re.compile(r"(PUT|DELETE) (?:/admin)?/features/([0-9]+)(?:/at/[0-9]+)?(?:\?.*)?")
+NUMBERED = re.compile(r"(?:POST /admin/edits|PUT /admin/features/[0-9]+)/at/([0-9]+)")
 # How many seconds nginx may write a line after the edit was seen, and lines may be in another order than edits.
 SLACK = 1
 

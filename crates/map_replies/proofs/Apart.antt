@@ -14,9 +14,9 @@ use Rattle.tile_routes.specs.declared.target.View.{View}
 use Rattle.tile_routes.specs.declared.target.View.TheVariants as views
 use Rattle.tile_routes.specs.declared.target.TileFormat.{TileFormat}
 use Rattle.tile_routes.specs.Paths.{Asked, asked_tile, asked_feature, asked_from, asked_page, asked_edits, asked_numbered, asked_view, asked_action}
-use Rattle.tile_routes.specs.Paths.{asked_nothing}
+use Rattle.tile_routes.specs.Paths.{asked_numbered_feature, asked_nothing}
 use Rattle.edit_text.specs.Recorded.{RecordedEdit}
-use Rattle.feature_model.specs.Data.{EditData, put, delete}
+use Rattle.feature_model.specs.Data.{FeatureData, EditData, put, delete}
 use Rattle.tile_service.specs.Machine.{Happening, Call, single, batched, recorded_in, recorded_change, edit, begin, step, cancel, check}
 use Rattle.tile_service.specs.Machine.{got, tile, tile_number, look, look_from, metadata, read, list_edits}
 use Rattle.tile_service.specs.declared.status.Status.{Status}
@@ -25,7 +25,7 @@ use Rattle.http_serve.specs.declared.replies.Tag.{Tag}
 use Rattle.http_serve.specs.declared.replies.EntityTag.{EntityTag}
 use Rattle.map_replies.specs.Conditions.{AskView, refuses, needed}
 use Rattle.map_replies.specs.Bodies.{CheckedEdit}
-use Rattle.map_replies.specs.Meanings.{MeansBody, MeansIf, MeansEdit, MeansChecked, MeansNumbered, MeansPart, MeansJudged, MeansArchive, MeansTile}
+use Rattle.map_replies.specs.Meanings.{IfNext, MeansBody, MeansIf, MeansEdit, MeansChecked, MeansNumbered, MeansPart, MeansJudged, MeansArchive, MeansTile}
 use Rattle.map_replies.specs.Meanings.{MeansPage, MeansList, MeansOnFeature, MeansView, MeansAction, MeansAllowed, MeansMethod, UnlessRefused, looks}
 use Rattle.map_replies.specs.Pages.{Entry, looks_from}
 use Rattle.map_replies.specs.Preparing.{asks_to_publish, calls_publication, AreMeanwhile, IsMeanwhile}
@@ -136,6 +136,12 @@ numbered_apart : (failed : Type 0) (old : Status) (number : ℕ) (cs : EditData)
 numbered_apart failed old number cs reply happenings (inl is) = edit_apart failed batched (recorded_in old.version cs) reply happenings is.1
 numbered_apart failed old number cs reply happenings (inr is) = none happenings is.2
 
+numbered_put_apart : (failed : Type 0) (old : Status) (n : Needed) (id number : ℕ) (f : FeatureData)
+    → AllApart (IfNext old number (MeansIf n id (MeansEdit failed (edit single (recorded_change old.version (put id f))))))
+numbered_put_apart failed old n id number f reply happenings (inl is) =
+    if_apart n id _ (edit_apart failed single (recorded_change old.version (put id f))) reply happenings is.1
+numbered_put_apart failed old n id number f reply happenings (inr is) = none happenings is.2
+
 part_apart : (failed : Type 0) (total : ℕ) (tag : Option Tag) (part : ArchiveRange) → AllApart (MeansPart failed total tag part)
 part_apart failed total tag Beyond reply happenings is = none happenings is.1
 part_apart failed total tag part reply happenings is = one (read (start_of part) is.0) happenings tt is.4
@@ -188,6 +194,8 @@ allowed_apart failed old new (asked_page id) method ask body other reply happeni
 allowed_apart failed old new (asked_edits number) method ask body other reply happenings is = listed_apart failed old number reply happenings is
 allowed_apart failed old new (asked_numbered number) method ask body other reply happenings is =
     body_apart _ _ _ (numbered_apart failed old number) reply happenings is
+allowed_apart failed old new (asked_numbered_feature id number) method ask body other reply happenings is =
+    body_apart _ _ _ (numbered_put_apart failed old (needed ask) id number) reply happenings is
 allowed_apart failed old new (asked_view view) method ask body other reply happenings is = view_apart failed old new view method ask reply happenings is
 allowed_apart failed old new (asked_action action) method ask body other reply happenings is =
     action_apart failed old new action body other reply happenings is

@@ -1,13 +1,13 @@
 -- Replies to edits that are made only if they get a number.
-use Rattle.std.proofs.Common.{◌≡◌, ◌≢◌, ◌+◌, inl, inr, ℕ, List, [], ◌∷◌, Result, refl}
+use Rattle.std.proofs.Common.{◌≡◌, ◌≢◌, ◌+◌, inl, inr, ℕ, List, [], ◌∷◌, Result, refl, sym, ap, ◌∙◌}
 use Rattle.http_serve.specs.Reply.{ReplyView}
 use Rattle.sector_disk.specs.Disk.{History, HasFailed}
 use Rattle.feature_model.specs.Data.{EditData}
-use Rattle.tile_service.specs.Machine.{edit, batched, recorded_in}
+use Rattle.tile_service.specs.Machine.{Happening, edit, batched, recorded_in}
 use Rattle.tile_service.specs.Runs.{Takes}
 use Rattle.tile_service.specs.Service.{ServiceView, TellsDevice, status_of}
 use Rattle.tile_service.specs.declared.fault.ServiceFault.{ServiceFault}
-use Rattle.map_replies.specs.Meanings.{MeansNumbered, Answers}
+use Rattle.map_replies.specs.Meanings.{IfNext, MeansNumbered, Answers}
 use Rattle.map_replies.specs.Words.{outcome_reply, not_next_reply}
 use Rattle.map_replies.proofs.Answering.{device_failed}
 
@@ -21,4 +21,20 @@ module _ {D : Type 0} (sectors : D → ℕ) (honest : D → Type 0) (history : D
     edit batched (recorded_in old.version cs) outcome ∷ [],
     inl (next, (outcome, is, device_failed outcome before after counts, refl)),
     (new, takes, refl),
+  )
+
+  -- the number is that of the next edit
+  pub if_next : (number : ℕ) (IsMeant : ReplyView → List Happening → Type 0) (old new : ServiceView D) (reply : ReplyView)
+      → number ≡ old.journal.last + 1 → Answers sectors honest history IsMeant old new reply
+      → Answers sectors honest history (IfNext (status_of old) number IsMeant) old new reply
+  if_next number IsMeant old new reply next is = (is.0, inl (next, is.1), is.2)
+
+  -- it is another one
+  pub if_not_next : (number last : ℕ) (IsMeant : ReplyView → List Happening → Type 0) (old : ServiceView D) (reply : ReplyView)
+      → (number ≡ last + 1 → ⊥) → last ≡ old.journal.last → reply ≡ not_next_reply last
+      → Answers sectors honest history (IfNext (status_of old) number IsMeant) old old reply
+  if_not_next number last IsMeant old reply other same is = (
+    [],
+    inr ((λ next. other (next ∙ ap (λ (n : ℕ). n + 1) (sym same))), is ∙ ap not_next_reply same, refl),
+    refl,
   )

@@ -9,7 +9,7 @@ use Rattle.http_serve.specs.declared.handlers.RestFault.{RestFault}
 use Rattle.http_serve.specs.declared.handlers.Ticket.{Ticket}
 use Rattle.sector_disk.specs.Disk.{History}
 use Rattle.tile_routes.specs.Methods.{method_on}
-use Rattle.tile_routes.specs.Paths.{Asked, asked_action, asked_edits, asked_feature, asked_numbered, asked_view}
+use Rattle.tile_routes.specs.Paths.{Asked, asked_action, asked_edits, asked_feature, asked_numbered, asked_numbered_feature, asked_view}
 use Rattle.tile_routes.specs.declared.fault.RouteFault.{RouteFault}
 use Rattle.tile_routes.specs.declared.method.Method.{Method}
 use Rattle.tile_routes.specs.declared.method.Method.TheVariants.{Get, Post, Put, Delete}
@@ -52,6 +52,7 @@ is_edit action = false
 abbrev pub asks_to_edit : Asked → Result Method RouteFault → Bool
 asks_to_edit (asked_feature id) method = puts method
 asks_to_edit (asked_numbered number) method = posts method
+asks_to_edit (asked_numbered_feature id number) method = puts method
 asks_to_edit (asked_action action) method = is_edit action && posts method
 asks_to_edit asked method = false
 

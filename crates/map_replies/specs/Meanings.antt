@@ -20,7 +20,7 @@ use Rattle.tile_routes.specs.declared.target.View.{View}
 use Rattle.tile_routes.specs.declared.target.View.TheVariants as views
 use Rattle.tile_routes.specs.Methods.{method_on}
 use Rattle.tile_routes.specs.Paths.{Asked, asked_tile, asked_feature, asked_from, asked_page, asked_edits, asked_numbered, asked_view, asked_action}
-use Rattle.tile_routes.specs.Paths.{asked_nothing}
+use Rattle.tile_routes.specs.Paths.{asked_numbered_feature, asked_nothing}
 use Rattle.tile_routes.specs.Paths.{asked_by, granted}
 use Rattle.tile_routes.specs.declared.access.Access.{Access}
 use Rattle.edit_journal.specs.Records.{RecordData}
@@ -149,15 +149,23 @@ pub record ReplacesSeen (m : FeatureMap) (body : List ℕ) : Type 0 where
 
 -- ---- edits that are made only if they get a number
 
--- The changes are made as one edit, as without a number, if that gets this one. If it would get another one, nothing happens.
-abbrev pub MeansNumbered : (failed : Type 0) → (old : Status) → ℕ → EditData → ReplyView → List Happening → Type 0
-MeansNumbered failed old number cs reply happenings =
-    ((number ≡ old.edits + 1) × MeansEdit failed (edit batched (recorded_in old.version cs)) reply happenings)
+-- An edit is asked for, as without a number, if it gets this one. If it would get another one, nothing happens.
+abbrev pub IfNext : (old : Status) → ℕ → (ReplyView → List Happening → Type 0) → ReplyView → List Happening → Type 0
+IfNext old number IsMeant reply happenings = ((number ≡ old.edits + 1) × IsMeant reply happenings)
     ⊎ ((number ≢ old.edits + 1) × (reply ≡ not_next_reply old.edits) × (happenings ≡ []))
+
+-- the changes are made as one edit, if that gets the number
+abbrev pub MeansNumbered : (failed : Type 0) → (old : Status) → ℕ → EditData → ReplyView → List Happening → Type 0
+MeansNumbered failed old number cs = IfNext old number (MeansEdit failed (edit batched (recorded_in old.version cs)))
 
 -- the same of the changes of the body
 abbrev pub MeansNumberedBatch : (failed : Type 0) → (old : Status) → ℕ → List ℕ → ReplyView → List Happening → Type 0
 MeansNumberedBatch failed old number body = MeansBody (SaysChanges body) (HasBatchFault body) (MeansNumbered failed old number)
+
+-- the feature of the body is set, if that edit gets the number
+abbrev pub MeansNumberedPut : (failed : Type 0) → (old : Status) → Needed → (id number : ℕ) → List ℕ → ReplyView → List Happening → Type 0
+MeansNumberedPut failed old needed id number body = MeansBody (SaysFeature body) (HasBodyFault body)
+    (λ (f : FeatureData). IfNext old number (MeansIf needed id (MeansEdit failed (edit single (recorded_change old.version (put id f))))))
 
 -- ---- a whole publication
 
@@ -292,6 +300,7 @@ MeansAllowed failed old new (asked_from id) method ask body = MeansCall (look_fr
 MeansAllowed failed old new (asked_page id) method ask body = MeansPage id
 MeansAllowed failed old new (asked_edits number) method ask body = MeansList failed old number
 MeansAllowed failed old new (asked_numbered number) method ask body = MeansNumberedBatch failed old number body
+MeansAllowed failed old new (asked_numbered_feature id number) method ask body = MeansNumberedPut failed old (needed ask) id number body
 MeansAllowed failed old new (asked_view view) method ask body = MeansView failed old new view method ask
 MeansAllowed failed old new (asked_action action) method ask body = MeansAction failed old new action body
 MeansAllowed failed old new asked_nothing method ask body = MeansRefusal NotFound

@@ -81,7 +81,7 @@ fn is_to_edit(target: Target, method: &[u8]) -> bool
     ensures { result ≡ asks_to_edit (asked_of target) (method_on method.now (asked_of target)) }
 {
     match target {
-        Target::Feature(_) => puts(target.method(method)),
+        Target::Feature(_) | Target::FeatureAt(..) => puts(target.method(method)),
         Target::EditsAt(_) => posts(target.method(method)),
         Target::Action(action) => is_edit(action) && posts(target.method(method)),
         Target::Tile(..)

@@ -22,7 +22,7 @@ use sector_disk::Sectors;
 
 impl<D: Sectors + Drop> Calls<D> {
     /// Whether the feature of an id is as conditions want it.
-    fn meets(&self, id: u64, needed: Needed) -> bool
+    pub(crate) fn meets(&self, id: u64, needed: Needed) -> bool
         ensures { result ≡ meets needed (feature_at self.now.service.features id) }
     {
         match needed {

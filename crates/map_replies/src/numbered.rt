@@ -3,13 +3,14 @@ ghost use Rattle.std.specs.Prelude.{◌≡◌, ◌≤◌, [], map, vec_capacity,
 ghost use Rattle.http_serve.specs.Reply.{reply_view, IsWhole};
 ghost use Rattle.feature_model.specs.Data.{change_data};
 ghost use Rattle.tile_service.specs.Service.{status_of};
-ghost use Rattle.map_replies.specs.Meanings.{MeansNumbered, MeansNumberedBatch, Answers, DiskFailed};
+ghost use Rattle.map_replies.specs.Meanings.{MeansNumbered, MeansNumberedBatch, MeansNumberedPut, Answers, DiskFailed};
 ghost use Rattle.map_replies.specs.Sending.{IsAnswered};
 ghost use Rattle.map_replies.specs.declared.replies.TheConstants.{MAX_TEXT};
 ghost use Rattle.map_replies.specs.Tickets.{KeepsTickets};
 
-use crate::bodies::changes_in;
+use crate::bodies::{changes_in, feature_in};
 use crate::calls::Calls;
+use crate::conditions::Needed;
 use crate::fault::RequestFault;
 use crate::replies;
 use edit_journal::is_next;
@@ -55,5 +56,39 @@ impl<D: Sectors + Drop> Calls<D> {
             return Err(RequestFault::Memory);
         };
         Ok(self.make_numbered(text, number, changes))
+    }
+
+    /// Sets the feature of an id to the one in the body, if that edit gets the number, and the feature that is there is as the conditions want it.
+    #[tactic(auto, using(crate::proofs::Answering::body_refused))]
+    pub(crate) fn numbered_put(
+        &mut self,
+        id: u64,
+        number: u64,
+        needed: Needed,
+        body: &[u8],
+    ) -> Result<Reply, RequestFault>
+        ensures answered { IsAnswered (Answers D.sectors D.honest D.history
+            (MeansNumberedPut (DiskFailed D.faults self.old.service self.new.service) (status_of self.old.service) needed id number body.now)
+            self.old.service self.new.service) result }
+        ensures writable { IfOk result IsWhole }
+        ensures held { KeepsTickets D.honest D.history self.old self.new }
+        ensures oldest { self.new.oldest ≡ self.old.oldest }
+    {
+        let feature = match feature_in(self.alloc, body) {
+            Ok(feature) => feature,
+            Err(fault) => return Err(fault),
+        };
+        let Ok(text) = replies::outcome_space(self.alloc) else {
+            return Err(RequestFault::Memory);
+        };
+        let last = self.service.last();
+        if !is_next(last, number) {
+            return Ok(replies::not_next(text, last));
+        }
+        if !self.meets(id, needed) {
+            return Err(RequestFault::Condition);
+        }
+        let outcome = self.service.put(id, feature);
+        Ok(replies::outcome(text, outcome))
     }
 }

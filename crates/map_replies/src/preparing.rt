@@ -74,6 +74,7 @@ fn is_publishing(target: Target) -> bool
         | Target::FeaturePage(_)
         | Target::EditsFrom(_)
         | Target::EditsAt(_)
+        | Target::FeatureAt(..)
         | Target::View(_)
         | Target::Nothing => false,
     }

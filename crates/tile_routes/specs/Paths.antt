@@ -64,6 +64,7 @@ served_paths =
     ∷ (codes "/admin/edits", routes.Action actions.CheckedEdits)
     ∷ (codes "/admin/edits/from/{number}", routes.EditsFrom)
     ∷ (codes "/admin/edits/at/{number}", routes.EditsAt)
+    ∷ (codes "/admin/features/{id}/at/{number}", routes.FeatureAt)
     ∷ []
 
 -- these, as the router keeps them
@@ -82,6 +83,8 @@ pub data Asked : Type 0 where
   asked_edits : ℕ → Asked
   -- an edit, if it gets this number
   asked_numbered : ℕ → Asked
+  -- the feature with this id is set, if the edit gets this number
+  asked_numbered_feature : (id number : ℕ) → Asked
   asked_view : View → Asked
   asked_action : Action → Asked
   asked_nothing : Asked
@@ -123,6 +126,11 @@ abbrev pub numbered_asked : Option ℕ → Asked
 numbered_asked None = asked_nothing
 numbered_asked (Some number) = asked_numbered number
 
+abbrev pub numbered_feature_asked : Option ℕ → Option ℕ → Asked
+numbered_feature_asked (Some id) (Some number) = asked_numbered_feature id number
+numbered_feature_asked (Some id) None = asked_nothing
+numbered_feature_asked None number = asked_nothing
+
 abbrev pub tile_asked : Option ℕ → Option ℕ → Option ℕ → TileFormat → Asked
 tile_asked (Some z) (Some x) (Some y) format =
     if is_served z x y then asked_tile z x y format else asked_nothing
@@ -151,6 +159,8 @@ asked_on routes.FeatureFrom parts = from_asked (number_of (part_named (codes "id
 asked_on routes.FeaturePage parts = page_asked (number_of (part_named (codes "id") parts))
 asked_on routes.EditsFrom parts = edits_asked (number_of (part_named (codes "number") parts))
 asked_on routes.EditsAt parts = numbered_asked (number_of (part_named (codes "number") parts))
+asked_on routes.FeatureAt parts =
+    numbered_feature_asked (number_of (part_named (codes "id") parts)) (number_of (part_named (codes "number") parts))
 asked_on (routes.View view) parts = asked_view view
 asked_on (routes.Action action) parts = asked_action action
 
@@ -170,6 +180,7 @@ is_admin (asked_from id) = true
 is_admin (asked_page id) = true
 is_admin (asked_edits number) = true
 is_admin (asked_numbered number) = true
+is_admin (asked_numbered_feature id number) = true
 is_admin (asked_view views.Status) = true
 is_admin (asked_action actions.CheckedEdits) = true
 is_admin asked = false

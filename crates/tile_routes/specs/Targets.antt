@@ -6,10 +6,10 @@ use Rattle.matchit.specs.declared.params.Params.{Params}
 use Rattle.feature_model.specs.declared.limits.TheConstants.{MAX_ZOOM, NUMBER_END}
 use Rattle.tile_routes.specs.declared.routes.Route.{Route}
 use Rattle.tile_routes.specs.declared.target.Target.{Target}
-use Rattle.tile_routes.specs.declared.target.Target.TheVariants.{Tile, Feature, FeatureFrom, FeaturePage, EditsFrom, EditsAt, View, Action, Nothing}
+use Rattle.tile_routes.specs.declared.target.Target.TheVariants.{Tile, Feature, FeatureFrom, FeaturePage, EditsFrom, EditsAt, FeatureAt, View, Action, Nothing}
 use Rattle.tile_routes.specs.declared.target.TileFormat.{TileFormat}
 use Rattle.tile_routes.specs.Paths.{Asked, asked_tile, asked_feature, asked_from, asked_page, asked_edits, asked_numbered, asked_view, asked_action}
-use Rattle.tile_routes.specs.Paths.{asked_nothing}
+use Rattle.tile_routes.specs.Paths.{asked_numbered_feature, asked_nothing}
 
 -- what a target asks for
 abbrev pub asked_of : Target → Asked
@@ -19,6 +19,7 @@ asked_of (FeatureFrom id) = asked_from id
 asked_of (FeaturePage id) = asked_page id
 asked_of (EditsFrom number) = asked_edits number
 asked_of (EditsAt number) = asked_numbered number
+asked_of (FeatureAt id number) = asked_numbered_feature id number
 asked_of (View view) = asked_view view
 asked_of (Action action) = asked_action action
 asked_of Nothing = asked_nothing
@@ -31,6 +32,7 @@ IsInRange (FeatureFrom id) = id < NUMBER_END
 IsInRange (FeaturePage id) = id < NUMBER_END
 IsInRange (EditsFrom number) = number < NUMBER_END
 IsInRange (EditsAt number) = number < NUMBER_END
+IsInRange (FeatureAt id number) = (id < NUMBER_END) × (number < NUMBER_END)
 IsInRange other = Unit {0}
 
 -- a path's text with its route

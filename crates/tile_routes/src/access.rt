@@ -27,6 +27,7 @@ impl Target {
                 | Target::FeaturePage(_)
                 | Target::EditsFrom(_)
                 | Target::EditsAt(_)
+                | Target::FeatureAt(..)
                 | Target::View(View::Status)
                 | Target::Action(Action::CheckedEdits),
             ) => Target::Nothing,

@@ -59,6 +59,7 @@ impl Target {
             | Target::View(_) => &[Method::Get, Method::Head],
             Target::Feature(_) => &[Method::Get, Method::Head, Method::Put, Method::Delete],
             Target::EditsAt(_) | Target::Action(_) => &[Method::Post],
+            Target::FeatureAt(..) => &[Method::Put],
             Target::Nothing => &[],
         }
     }
@@ -96,6 +97,7 @@ impl Target {
             | Target::View(_) => "GET, HEAD",
             Target::Feature(_) => "GET, HEAD, PUT, DELETE",
             Target::EditsAt(_) | Target::Action(_) => "POST",
+            Target::FeatureAt(..) => "PUT",
             Target::Nothing => "",
         }
     }

@@ -10,7 +10,8 @@ ghost use Rattle.tile_routes.specs.Targets.{asked_of, IsInRange, parts_of, row_p
 
 use crate::parts::requested_tile;
 use crate::target::{
-    Action, Target, View, edits_target, feature_target, from_target, numbered_target, page_target,
+    Action, Target, View, edits_target, feature_target, from_target, numbered_feature_target,
+    numbered_target, page_target,
 };
 use matchit::{InsertError, Params, Router};
 use std::alloc::{AllocError, Global};
@@ -25,6 +26,7 @@ pub(crate) enum Route {
     FeaturePage,
     EditsFrom,
     EditsAt,
+    FeatureAt,
     View(View),
     Action(Action),
 }
@@ -64,6 +66,7 @@ const SERVED: &[(&str, Route)] = &[
     ("/admin/edits", Route::Action(Action::CheckedEdits)),
     ("/admin/edits/from/{number}", Route::EditsFrom),
     ("/admin/edits/at/{number}", Route::EditsAt),
+    ("/admin/features/{id}/at/{number}", Route::FeatureAt),
 ];
 
 /// The router of a table of paths that don't conflict.
@@ -131,6 +134,7 @@ fn route_target(route: Route, params: &Params<'_, '_>, path: &[u8]) -> Target
         Route::FeaturePage => page_target(part(params, "id")),
         Route::EditsFrom => edits_target(part(params, "number")),
         Route::EditsAt => numbered_target(part(params, "number")),
+        Route::FeatureAt => numbered_feature_target(part(params, "id"), part(params, "number")),
         Route::View(view) => Target::View(view),
         Route::Action(action) => Target::Action(action),
     }

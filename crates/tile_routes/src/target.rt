@@ -3,6 +3,7 @@ ghost use Rattle.std.specs.Prelude.{◌≡◌, IsTrue};
 ghost use Rattle.std.specs.Option.{option_map};
 ghost use Rattle.tile_routes.specs.Number.{number_of};
 ghost use Rattle.tile_routes.specs.Paths.{asked_tile, is_served, feature_asked, from_asked, page_asked, edits_asked, numbered_asked, named_tile};
+ghost use Rattle.tile_routes.specs.Paths.{numbered_feature_asked};
 ghost use Rattle.tile_routes.specs.Paths.{row_and_format};
 ghost use Rattle.tile_routes.specs.Targets.{asked_of, IsInRange, row_view};
 
@@ -65,6 +66,9 @@ pub enum Target {
     /// `/admin/edits/at/{number}`: makes several changes as one edit, if that gets this number, which is below
     /// `feature_model::NUMBER_END`.
     EditsAt(u64),
+    /// `/admin/features/{id}/at/{number}`: sets the feature with this id, if the edit gets this number; both are below
+    /// `feature_model::NUMBER_END`.
+    FeatureAt(u64, u64),
     /// A path that GET and HEAD show.
     View(View),
     /// A path that POST does something at.
@@ -125,6 +129,17 @@ pub(crate) fn numbered_target(number: &[u8]) -> Target
     match path_number(number) {
         Some(number) => Target::EditsAt(number),
         None => Target::Nothing,
+    }
+}
+
+/// The feature whose id, and the edit whose number the texts write.
+pub(crate) fn numbered_feature_target(id: &[u8], number: &[u8]) -> Target
+    ensures asked { asked_of result ≡ numbered_feature_asked (number_of id.now) (number_of number.now) }
+    ensures range { IsInRange result }
+{
+    match (path_number(id), path_number(number)) {
+        (Some(id), Some(number)) => Target::FeatureAt(id, number),
+        _ => Target::Nothing,
     }
 }
 

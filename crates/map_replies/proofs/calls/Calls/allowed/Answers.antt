@@ -105,3 +105,16 @@ returns-in-EditsAt-clause-oldest g c = archives_stay (asked_of c.args.target) c.
 
 pub returns-in-Action-clause-oldest : goal.returns-in-Action-clause-oldest
 returns-in-Action-clause-oldest g c = rw c.in-Action.is c.on_action.ensures.oldest
+
+pub returns-in-FeatureAt-clause-answered : goal.returns-in-FeatureAt-clause-answered
+returns-in-FeatureAt-clause-answered g c =
+    rw (c.in-FeatureAt.is, ← c.needed.ensures) (whole_answer _ _ c.numbered_put.result c.numbered_put.ensures.answered c.numbered_put.ensures.writable)
+
+pub returns-in-FeatureAt-clause-words : goal.returns-in-FeatureAt-clause-words
+returns-in-FeatureAt-clause-words g c = whole_words c.numbered_put.result c.numbered_put.ensures.writable
+
+pub returns-in-FeatureAt-clause-held : goal.returns-in-FeatureAt-clause-held
+returns-in-FeatureAt-clause-held g c = c.numbered_put.ensures.held
+
+pub returns-in-FeatureAt-clause-oldest : goal.returns-in-FeatureAt-clause-oldest
+returns-in-FeatureAt-clause-oldest g c = archives_stay (asked_of c.args.target) c.numbered_put.result _ _ c.numbered_put.ensures.oldest
