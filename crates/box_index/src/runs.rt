@@ -17,7 +17,7 @@ use std::alloc::{AllocError, Global};
 pub(crate) const RUN: usize = 32;
 
 /// The blocks of a run.
-fn run_of(blocks: &[IndexBlock], run: usize) -> &[IndexBlock]
+pub(crate) fn run_of(blocks: &[IndexBlock], run: usize) -> &[IndexBlock]
     requires { run * RUN ≤ length blocks.now }
     ensures { result.now ≡ take RUN (drop (run * RUN) blocks.now) }
 {
