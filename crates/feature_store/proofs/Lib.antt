@@ -9,6 +9,7 @@ mod Gathers
 mod Kept
 pub mod LimitNumbers
 mod Listed
+mod Looked
 mod Names
 mod Near
 mod Shown

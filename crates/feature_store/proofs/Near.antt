@@ -29,7 +29,7 @@ above_at n (e ∷ m) zero d above lt = above.0
 above_at n (e ∷ m) (suc j) d above lt = above_at n m j d above.1 (omega arith)
 
 -- the ids ascend as the numbers do
-ids_rise : (m : FeatureMap) → Ascends m → IsNonDecreasingBy (λ (e : IndexEntry). e.id) (map index_entry m)
+pub ids_rise : (m : FeatureMap) → Ascends m → IsNonDecreasingBy (λ (e : IndexEntry). e.id) (map index_entry m)
 ids_rise [] up i j d le lt = absurd (omega arith)
 ids_rise (e ∷ m) up zero zero d le lt = omega arith
 ids_rise (e ∷ m) up zero (suc j) d le lt = let h = above_at e.0 m j d (ascends_head e m up) (omega arith) in omega arith

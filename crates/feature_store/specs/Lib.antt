@@ -6,6 +6,7 @@ pub mod Ends
 pub mod Gathered
 pub mod Hand
 pub mod HandInside
+pub mod InBox
 pub mod Indexed
 pub mod Inside
 pub mod Layers

@@ -7,6 +7,7 @@ mod cutter;
 mod fault;
 mod feature_boxes;
 mod gathered;
+mod in_box;
 mod indexed;
 mod keeping;
 mod late_index;
@@ -28,6 +29,7 @@ mod tiles_left;
 
 pub use all_tiles::{Making, Tile, Tiles};
 pub use fault::SnapshotFault;
+pub use in_box::{BOX_LOOKS, InBox};
 pub use limit::TEXTS_END;
 pub use moment::Moment;
 pub use moment_reader::{MomentReader, STEP_NUMBERS};

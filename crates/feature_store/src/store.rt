@@ -8,6 +8,7 @@ ghost use Rattle.edit_text.specs.Views.{feature_view};
 ghost use Rattle.number_map.specs.Blocks.{Ascends, joined};
 ghost use Rattle.tile_cutter.specs.WorldBox.{bounding_box};
 ghost use Rattle.feature_store.specs.Content.{IsTileContent};
+ghost use Rattle.feature_store.specs.InBox.{IsInBox};
 ghost use Rattle.feature_store.specs.Indexed.{ShowsAll};
 ghost use Rattle.feature_store.specs.Inside.{IsOwn, stored_data, entries_data};
 ghost use Rattle.feature_store.specs.Layers.{layers};
@@ -22,6 +23,7 @@ use crate::all_tiles::Tiles;
 use crate::cutter::Cutter;
 use crate::fault::SnapshotFault;
 use crate::feature_boxes::FeatureBoxes;
+use crate::in_box::{BOX_ENTRIES, InBox, look_at_each};
 use crate::indexed::{index_entry, is_wide, numbers_near};
 use crate::late_index::{index_of, set_box, take_box};
 use crate::limit::TEXTS_END;
@@ -126,6 +128,20 @@ impl Store {
             Some(entry) => Some((entry.0, entry.1.view())),
             None => None,
         }
+    }
+
+    /// The numbers of the features from a number on whose bounding box meets this one. The index finds all of them; but if more than
+    /// 16,384 features may be in the box, each of the next `BOX_LOOKS` features is looked at instead. The only error is out of memory.
+    pub fn in_box(&self, bounds: &WorldBox, id: u64) -> Result<InBox, AllocError>
+        ensures { IfOk result (IsInBox self.now.features bounds.now id) }
+    {
+        if let Some(index) = &self.index {
+            if let Some(numbers) = index.query_box(self.alloc, bounds, id, BOX_ENTRIES)? {
+                let next = None;
+                return Ok(InBox { numbers, next });
+            }
+        }
+        look_at_each(self.alloc, self, bounds, id)
     }
 
     /// The greatest number of a feature, or `None` if the map is empty.
