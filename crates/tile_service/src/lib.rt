@@ -9,6 +9,7 @@ mod editing;
 mod event;
 mod fault;
 mod formatting;
+mod in_box;
 mod letting_go;
 mod listing;
 mod making;
