@@ -267,6 +267,7 @@ ADMIN_ROUTES = [
     (rb"/admin/status", "status", "GET, HEAD"),
     (rb"/admin/features/from/" + NUMBER, "from", "GET, HEAD"),
     (rb"/admin/features/page/" + NUMBER, "page", "GET, HEAD"),
+    (rb"/admin/features/box/" + rb",".join([NUMBER] * 4) + rb"/from/" + NUMBER, "box", "GET, HEAD"),
     (rb"/admin/edits", "checked", "POST"),
     (rb"/admin/edits/from/" + NUMBER, "feed", "GET, HEAD"),
     (rb"/admin/edits/at/" + NUMBER, "numbered", "POST"),
@@ -279,6 +280,9 @@ def is_in_range(name, numbers):
         return numbers[0] < 2**63
     if name == "numbered feature":
         return max(numbers) < 2**63
+    if name == "box":
+        left, top, right, bottom, number = numbers
+        return left <= right < 2**32 and top <= bottom < 2**32 and number < 2**63
     return name != "tile" or numbers[0] <= MAX_ZOOM and max(numbers[1:]) < 2 ** numbers[0]
 
 
@@ -521,6 +525,8 @@ def reply_to(service, request, is_admin):
             return numbered_feature(service, *numbers, request, wants)
         if name == "page":
             return json_reply(listings.page(service, numbers[0]))
+        if name == "box":
+            return json_reply(listings.box_page(service, *numbers))
         if name == "feed":
             return json_reply(listings.edits_from(service, numbers[0]))
         if name == "tile":

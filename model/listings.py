@@ -3,11 +3,13 @@ docs/HTTP.md. It shares no code with the product."""
 import features
 from crashes import Failed
 from disk import parts_of, record_text
-from machine import Refused
+from machine import Refused, box_of
 
 # Edits are listed until their texts, as the journal has them, have so many bytes, and features until their JSON has so many.
 FEED_BYTES = 16384
 PAGE_BYTES = 65536
+# All features in a box are found at once on a map of so many features at most.
+BOX_ENTRIES = 16384
 
 
 def until(items, size_of, most):
@@ -69,7 +71,19 @@ def edits_from(service, number):
 
 def page(service, number):
     """The features from a number on, and the number behind them, as JSON."""
-    numbers = sorted(other for other in service.map if other >= number)
+    return page_of(service, sorted(other for other in service.map if other >= number))
+
+
+def box_page(service, left, top, right, bottom, number):
+    """Those of them whose boxes meet one, and the number of the next such feature. Only a larger map has pages that end sooner."""
+    assert len(service.map) <= BOX_ENTRIES
+    boxes = {other: box_of(feature) for other, feature in service.map.items() if other >= number}
+    met = lambda across, down: across[0] <= right and left <= across[1] and down[0] <= bottom and top <= down[1]  # noqa: E731
+    return page_of(service, sorted(other for other, box in boxes.items() if met(*box)))
+
+
+def page_of(service, numbers):
+    """The first of these features, and the number of the one behind them, as JSON."""
     found = until([{"feature": service.map[other], "id": other} for other in numbers], lambda entry: len(features.compact(entry).encode()), PAGE_BYTES)
     return {"features": found, "next": numbers[len(found)] if len(found) < len(numbers) else None}
 

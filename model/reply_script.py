@@ -6,6 +6,7 @@ import sys
 
 import connections
 import reply_admin
+import reply_boxes
 import reply_checked
 import reply_contents
 import reply_edits
@@ -130,7 +131,7 @@ def hold_to(examples, start):
 BLOCKS = [*reply_heads.BLOCKS, *reply_routes.BLOCKS, *reply_edits.BLOCKS, *reply_publications.BLOCKS, *reply_tags.BLOCKS]
 BLOCKS += [reply_random.at_random, *reply_hostile.BLOCKS]
 BLOCKS += [*reply_hostile_edits.BLOCKS, *reply_turns.BLOCKS, *reply_admin.BLOCKS, *reply_checked.BLOCKS, *reply_listings.BLOCKS]
-BLOCKS += [*reply_listening.BLOCKS, *reply_contents.BLOCKS, *reply_standby.BLOCKS]
+BLOCKS += [*reply_listening.BLOCKS, *reply_contents.BLOCKS, *reply_standby.BLOCKS, *reply_boxes.BLOCKS]
 
 
 def files():

@@ -2,13 +2,17 @@
 them."""
 import json
 import os
+import random
 import subprocess
 
 from .stand import JSON, PROGRAM, SHOWN, VTMAP, Cases, Server, curl, feature, refusal, same, status_of, wanted
 
 STATUS = "/admin/status"
 FROM = "/admin/features/from/"
+BOX = "/admin/features/box/"
 MANY = 200
+# A box with so many features isn't asked of the index: then a page looks at so many of the map's features.
+INDEXED, LOOKS = 16384, 1024
 
 
 def status(**changes):
@@ -46,6 +50,8 @@ def admin(cases: Cases, folder: str) -> None:
         listing(cases, server)
         watched(cases, server)
         saved(cases, folder, server)
+    with Server(folder, "boxes", more=["--admin"]) as server:
+        boxes(cases, server)
     piped(cases, folder)
 
 
@@ -120,6 +126,50 @@ def listing(cases, server):
     cases.show("list: each feature once, ascending", found, numbers)
     for number in ("00", "x", "", str(2**63)):
         same(cases, f"list: no number {number!r}", curl(url + FROM + number), refusal(404, "NotFound"))
+
+
+def pages_of(url, box, number=0):
+    """The ids of each page of a box, and the id that each page names as the next one."""
+    found, following = [], []
+    while number is not None:
+        page = json.loads(curl(f"{url}{BOX}{','.join(map(str, box))}/from/{number}")[2])
+        found.append([entry["id"] for entry in page["features"]])
+        number = page["next"]
+        following.append(number)
+    return found, following
+
+
+def boxes(cases, server):
+    """A map of more features than are asked of the index at once: the pages of any box have those in it, each once."""
+    chance = random.Random(11)
+    count = INDEXED + 5 * LOOKS
+    points = {3 * n + 1: (chance.randrange(1000), chance.randrange(1000)) for n in range(count)}
+    ids = list(points)
+    for start in range(0, count, 200):
+        changes = [
+            {"put": id, "feature": json.loads(feature(geometry={"points": [points[id]]}))}
+            for id in ids[start : start + 200]
+        ]
+        curl(server.url + "/edits", "-X", "POST", body=json.dumps({"changes": changes}))
+    cases.show("boxes: the map", json.loads(curl(server.url + STATUS)[2])["features"], count)
+    wide, narrow = (0, 0, 999, 999), (500, 500, 519, 999)
+    asked = [(wide, 0), (narrow, 0), (narrow, ids[count // 2]), ((500, 0, 500, 999), 0)]
+    asked.append(((0, 0, 998, 998), ids[-3 * LOOKS]))
+    for box, first in asked:
+        found, following = pages_of(server.url, box, first)
+        left, top, right, bottom = box
+        inside = [id for id, (x, y) in points.items() if id >= first and left <= x <= right and top <= y <= bottom]
+        cases.show(f"boxes: each feature in {box} from {first}, once", sum(found, []), inside)
+        # What a page lists is below its next id, and not below that of the page before.
+        for page, low, high in zip(found, [first, *following], following):
+            if not all(low <= id and (high is None or id < high) for id in page):
+                cases.show(f"boxes: a page of {box} within its ids", page, f"{low} to {high}")
+        strange = [id for id in following if id not in points]
+        cases.show(f"boxes: ids that the map hasn't, as the next of pages of {box}", strange, [None])
+    found, _ = pages_of(server.url, (1000, 1000, 2000, 2000))
+    cases.show("boxes: a box beside all of them is one page", found, [[]])
+    found, following = pages_of(server.url, (0, 0, 0, 999))
+    cases.show("boxes: a column of one unit is asked of the index", len(found), 1)
 
 
 def watched(cases, server):

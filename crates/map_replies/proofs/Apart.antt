@@ -14,9 +14,10 @@ use Rattle.tile_routes.specs.declared.target.View.{View}
 use Rattle.tile_routes.specs.declared.target.View.TheVariants as views
 use Rattle.tile_routes.specs.declared.target.TileFormat.{TileFormat}
 use Rattle.tile_routes.specs.Paths.{Asked, asked_tile, asked_feature, asked_from, asked_page, asked_edits, asked_numbered, asked_view, asked_action}
-use Rattle.tile_routes.specs.Paths.{asked_numbered_feature, asked_nothing}
+use Rattle.tile_routes.specs.Paths.{asked_box, asked_numbered_feature, asked_nothing}
 use Rattle.edit_text.specs.Recorded.{RecordedEdit}
 use Rattle.feature_model.specs.Data.{FeatureData, EditData, put, delete}
+use Rattle.feature_model.specs.declared.feature.WorldBox.{WorldBox}
 use Rattle.tile_service.specs.Machine.{Happening, Call, single, batched, recorded_in, recorded_change, edit, begin, step, cancel, check}
 use Rattle.tile_service.specs.Machine.{got, tile, tile_number, look, look_from, metadata, read, list_edits}
 use Rattle.tile_service.specs.declared.status.Status.{Status}
@@ -26,7 +27,7 @@ use Rattle.http_serve.specs.declared.replies.EntityTag.{EntityTag}
 use Rattle.map_replies.specs.Conditions.{AskView, refuses, needed}
 use Rattle.map_replies.specs.Bodies.{CheckedEdit}
 use Rattle.map_replies.specs.Meanings.{IfNext, MeansBody, MeansIf, MeansEdit, MeansChecked, MeansNumbered, MeansPart, MeansJudged, MeansArchive, MeansTile}
-use Rattle.map_replies.specs.Meanings.{MeansPage, MeansList, MeansOnFeature, MeansView, MeansAction, MeansAllowed, MeansMethod, UnlessRefused, looks}
+use Rattle.map_replies.specs.Meanings.{MeansBox, MeansPage, MeansList, MeansOnFeature, MeansView, MeansAction, MeansAllowed, MeansMethod, UnlessRefused, looks}
 use Rattle.map_replies.specs.Pages.{Entry, looks_from}
 use Rattle.map_replies.specs.Preparing.{asks_to_publish, calls_publication, AreMeanwhile, IsMeanwhile}
 use Rattle.map_replies.specs.declared.conditions.Needed.{Needed}
@@ -183,6 +184,10 @@ features_apart : (id : ℕ) → AllApart (MeansPage id)
 features_apart id reply happenings (inl is) = none happenings is.1
 features_apart id reply happenings (inr is) = subst AreApart (sym is.4) (page_apart id is.0 is.1)
 
+box_apart : (bounds : WorldBox) (id : ℕ) → AllApart (MeansBox bounds id)
+box_apart bounds id reply happenings (inl is) = none happenings is.1
+box_apart bounds id reply happenings (inr is) = subst AreApart (sym is.4) (page_apart id is.0 is.1)
+
 allowed_apart : (failed : Type 0) (old new : Status) (asked : Asked) (method : Method) (ask : AskView) (body : List ℕ)
     → asks_to_publish asked ≡ false → AllApart (MeansAllowed failed old new asked method ask body)
 allowed_apart failed old new (asked_tile z x y format) method ask body other reply happenings is =
@@ -191,6 +196,7 @@ allowed_apart failed old new (asked_feature id) method ask body other reply happ
     feature_apart failed old.version (needed ask) id method body reply happenings is
 allowed_apart failed old new (asked_from id) method ask body other reply happenings is = one (look_from id is.0) happenings tt is.2
 allowed_apart failed old new (asked_page id) method ask body other reply happenings is = features_apart id reply happenings is
+allowed_apart failed old new (asked_box bounds id) method ask body other reply happenings is = box_apart bounds id reply happenings is
 allowed_apart failed old new (asked_edits number) method ask body other reply happenings is = listed_apart failed old number reply happenings is
 allowed_apart failed old new (asked_numbered number) method ask body other reply happenings is =
     body_apart _ _ _ (numbered_apart failed old number) reply happenings is

@@ -1,6 +1,7 @@
 pub mod Along
 mod Answering
 mod Apart
+mod BoxLemmas
 mod CheckedEdits
 mod ConditionLemmas
 mod ConfirmedLemmas

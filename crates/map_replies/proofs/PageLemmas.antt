@@ -63,7 +63,7 @@ listed_on old text new more done e text_is more_is new_is =
 -- ---- what happens
 
 module _ {D : Type 0} (sectors : D → ℕ) (honest : D → Type 0) (history : D → History) where
-  takes_looks : (old : ServiceView D) (id : ℕ) (es : List Entry) (next : Option Entry) → AreFrom old.features id es next
+  pub takes_looks : (old : ServiceView D) (id : ℕ) (es : List Entry) (next : Option Entry) → AreFrom old.features id es next
       → TakesAll sectors honest history old (looks_from id es next) old
   takes_looks old id [] next is = (old, look_from_step sectors honest history old id (got next) (sym is), refl)
   takes_looks old id (e ∷ es) next is =

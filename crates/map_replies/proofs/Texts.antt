@@ -6,7 +6,7 @@ use Rattle.serde_json.specs.View.{items_of}
 use Rattle.serde_json.specs.Written.{has_float, items_have_float, members_have_float}
 use Rattle.tile_routes.specs.Methods.{allow_of, name_of}
 use Rattle.tile_routes.specs.Paths.{Asked, asked_tile, asked_feature, asked_from, asked_page, asked_edits, asked_numbered, asked_view, asked_action}
-use Rattle.tile_routes.specs.Paths.{asked_numbered_feature, asked_nothing}
+use Rattle.tile_routes.specs.Paths.{asked_box, asked_numbered_feature, asked_nothing}
 use Rattle.feature_model.specs.declared.feature.World.{World}
 use Rattle.feature_model.specs.Data.{GeometryData, world_points, world_lines, world_polygons, ValueData, text_value}
 use Rattle.feature_model.specs.Data.{natural_value, negative_value, truth_value, TagData, FeatureData, ChangeData, EditData, put, delete}
@@ -21,6 +21,7 @@ allow_short (asked_tile z x y format) = omega arith
 allow_short (asked_feature id) = omega arith
 allow_short (asked_from id) = omega arith
 allow_short (asked_page id) = omega arith
+allow_short (asked_box bounds id) = omega arith
 allow_short (asked_edits number) = omega arith
 allow_short (asked_numbered number) = omega arith
 allow_short (asked_numbered_feature id number) = omega arith

@@ -1,4 +1,5 @@
 pub mod Bodies
+pub mod BoxPages
 pub mod Conditions
 pub mod Confirming
 pub mod Feed

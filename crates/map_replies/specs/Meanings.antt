@@ -20,7 +20,7 @@ use Rattle.tile_routes.specs.declared.target.View.{View}
 use Rattle.tile_routes.specs.declared.target.View.TheVariants as views
 use Rattle.tile_routes.specs.Methods.{method_on}
 use Rattle.tile_routes.specs.Paths.{Asked, asked_tile, asked_feature, asked_from, asked_page, asked_edits, asked_numbered, asked_view, asked_action}
-use Rattle.tile_routes.specs.Paths.{asked_numbered_feature, asked_nothing}
+use Rattle.tile_routes.specs.Paths.{asked_box, asked_numbered_feature, asked_nothing}
 use Rattle.tile_routes.specs.Paths.{asked_by, granted}
 use Rattle.tile_routes.specs.declared.access.Access.{Access}
 use Rattle.edit_journal.specs.Records.{RecordData}
@@ -29,6 +29,8 @@ use Rattle.edit_journal.specs.declared.fault.JournalFault.TheVariants as journal
 use Rattle.edit_text.specs.Recorded.{RecordedEdit}
 use Rattle.feature_model.specs.Data.{FeatureData, EditData, put, delete, number_of}
 use Rattle.feature_model.specs.Seen.{SeenData}
+use Rattle.feature_model.specs.declared.feature.WorldBox.{WorldBox}
+use Rattle.feature_store.specs.InBox.{in_box}
 use Rattle.feature_store.specs.Store.{FeatureMap}
 use Rattle.tile_service.specs.Machine.{Happening, single, batched, recorded_in, recorded_change, edit, begin, step, cancel, check}
 use Rattle.tile_service.specs.Machine.{OrMemory, got, tile, tile_number, look, look_from, metadata, read, list_edits}
@@ -51,6 +53,7 @@ use Rattle.map_replies.specs.declared.conditions.Needed.{Needed}
 use Rattle.map_replies.specs.declared.conditions.Needed.TheVariants.{Free}
 use Rattle.map_replies.specs.declared.conditions.Judged.{Judged}
 use Rattle.map_replies.specs.declared.conditions.Judged.TheVariants.{Holds, Fails, Unchanged}
+use Rattle.map_replies.specs.BoxPages.{IsBoxPage}
 use Rattle.map_replies.specs.Feed.{changes_of, feed_body}
 use Rattle.map_replies.specs.declared.feed.TheConstants.{FEED_BYTES}
 use Rattle.map_replies.specs.Parts.{IsPart, start_of, size_of, archive_tag, shown_tag, part_reply, unchanged_reply, bytes_reply}
@@ -214,6 +217,11 @@ abbrev pub MeansPage : ℕ → ReplyView → List Happening → Type 0
 MeansPage id reply happenings = MeansRefusal Memory reply happenings ⊎ ((es : List Entry) × (next : Option Entry)
     × AreEnough PAGE_BYTES es next × (reply ≡ page_reply es next) × (happenings ≡ looks_from id es next))
 
+-- A page of those of them whose bounding boxes meet a box, or out of memory.
+abbrev pub MeansBox : WorldBox → ℕ → ReplyView → List Happening → Type 0
+MeansBox bounds id reply happenings = MeansRefusal Memory reply happenings ⊎ ((looked : List Entry) × (next : Option Entry)
+    × IsBoxPage looked (in_box bounds looked) next × (reply ≡ page_reply (in_box bounds looked) next) × (happenings ≡ looks_from id looked next))
+
 -- ---- tiles
 
 -- A tile that has a tag: of the run of the service that began with this number, and of the number of the tile. If if-none-match names the
@@ -298,6 +306,7 @@ MeansAllowed failed old new (asked_tile z x y format) method ask body = MeansTil
 MeansAllowed failed old new (asked_feature id) method ask body = MeansOnFeature failed old.version (needed ask) id method body
 MeansAllowed failed old new (asked_from id) method ask body = MeansCall (look_from id) (shown_reply numbered_reply)
 MeansAllowed failed old new (asked_page id) method ask body = MeansPage id
+MeansAllowed failed old new (asked_box bounds id) method ask body = MeansBox bounds id
 MeansAllowed failed old new (asked_edits number) method ask body = MeansList failed old number
 MeansAllowed failed old new (asked_numbered number) method ask body = MeansNumberedBatch failed old number body
 MeansAllowed failed old new (asked_numbered_feature id number) method ask body = MeansNumberedPut failed old (needed ask) id number body

@@ -116,6 +116,7 @@ impl<D: Sectors + Drop> Calls<D> {
             Target::Feature(id) => self.on_feature(id, method, ask.needed(), body),
             Target::FeatureFrom(id) => self.feature_from(id),
             Target::FeaturePage(id) => self.feature_page(id),
+            Target::FeatureBox(bounds, id) => self.box_page(&bounds, id),
             Target::EditsFrom(number) => self.edits_from(number),
             Target::EditsAt(number) => self.numbered_batch(number, body),
             Target::FeatureAt(id, number) => self.numbered_put(id, number, ask.needed(), body),

@@ -87,6 +87,7 @@ fn is_to_edit(target: Target, method: &[u8]) -> bool
         Target::Tile(..)
         | Target::FeatureFrom(_)
         | Target::FeaturePage(_)
+        | Target::FeatureBox(..)
         | Target::EditsFrom(_)
         | Target::View(_)
         | Target::Nothing => false,

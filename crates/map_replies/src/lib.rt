@@ -3,6 +3,7 @@
 
 mod archives;
 mod bodies;
+mod boxes;
 mod calls;
 mod checking;
 mod conditions;

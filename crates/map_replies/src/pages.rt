@@ -22,7 +22,7 @@ use std::alloc::{AllocError, Global};
 use tile_service::Service;
 
 /// Features are listed until their texts have this many bytes together.
-const PAGE_BYTES: usize = 65_536;
+pub(crate) const PAGE_BYTES: usize = 65_536;
 
 /// The text of a feature with its id.
 fn listed(alloc: Global, id: u64, feature: FeatureText<'_>) -> Result<Vec<u8>, AllocError>
@@ -35,7 +35,7 @@ fn listed(alloc: Global, id: u64, feature: FeatureText<'_>) -> Result<Vec<u8>, A
 }
 
 /// Adds the text of a feature with its id, and returns its length.
-fn add_feature(
+pub(crate) fn add_feature(
     alloc: Global,
     text: &mut Vec<u8>,
     more: bool,
@@ -83,7 +83,11 @@ fn add_features<D: Sectors + Drop>(
 
 /// Adds the id to ask for next, and ends the text.
 #[tactic(auto, unfolding(crate::specs::Pages::page_end))]
-fn add_next(alloc: Global, text: &mut Vec<u8>, next: Option<u64>) -> Result<(), AllocError>
+pub(crate) fn add_next(
+    alloc: Global,
+    text: &mut Vec<u8>,
+    next: Option<u64>,
+) -> Result<(), AllocError>
     ensures { OnOk result (text.new.items ≡ text.old.items ++ page_end next) }
 {
     let mut end = Vec::with_capacity(alloc, MAX_DIGITS + 10)?;

@@ -72,6 +72,7 @@ fn is_publishing(target: Target) -> bool
         | Target::Feature(_)
         | Target::FeatureFrom(_)
         | Target::FeaturePage(_)
+        | Target::FeatureBox(..)
         | Target::EditsFrom(_)
         | Target::EditsAt(_)
         | Target::FeatureAt(..)

@@ -72,4 +72,4 @@ more_fit rows i none old new done below fit is =
 -- the paths that are served all fit
 pub served_fit : AllFit served_paths []
 unfolding matchit_on_literals served_paths with_route
-served_fit = (refl, (refl, (refl, (refl, (refl, (refl, (refl, (refl, (refl, (refl, (refl, (refl, (refl, (refl, (refl, (refl, tt))))))))))))))))
+served_fit = (refl, (refl, (refl, (refl, (refl, (refl, (refl, (refl, (refl, (refl, (refl, (refl, (refl, (refl, (refl, (refl, (refl, tt)))))))))))))))))

@@ -19,7 +19,7 @@ HasParts route = IfTile route.value ((path : List ℕ) → walk route.pattern ro
 
 rows-parts : EachKey HasParts served_rows
 unfolding matchit_on_literals served_rows served_paths with_route HasParts
-rows-parts = (tt, (tt, (tt, (tt, (tt, (tt, (tt, (tt, (tt, (tt, (tt, (λ path. refl, (tt, (tt, (tt, (tt, tt))))))))))))))))
+rows-parts = (tt, (tt, (tt, (tt, (tt, (tt, (tt, (tt, (tt, (tt, (tt, (tt, (λ path. refl, (tt, (tt, (tt, (tt, tt)))))))))))))))))
 
 parts-of-found : (found : Option (RouteOf Route)) (route : RouteOf Route) → IfKey HasParts found → found ≡ Some route → HasParts route
 parts-of-found found route given e = let P : Option (RouteOf Route) → Type 0 = λ o. IfKey HasParts o in subst P e given

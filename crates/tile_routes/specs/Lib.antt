@@ -1,3 +1,4 @@
+pub mod Boxes
 pub mod Number
 pub mod Paths
 pub mod Targets

@@ -7,7 +7,7 @@ use Rattle.tile_routes.specs.declared.fault.RouteFault.TheVariants.{NotFound, No
 use Rattle.tile_routes.specs.declared.method.Method.{Method}
 use Rattle.tile_routes.specs.declared.method.Method.TheVariants.{Get, Head, Put, Delete, Post}
 use Rattle.tile_routes.specs.Paths.{Asked, asked_tile, asked_feature, asked_from, asked_page, asked_edits, asked_numbered, asked_view, asked_action}
-use Rattle.tile_routes.specs.Paths.{asked_numbered_feature, asked_nothing}
+use Rattle.tile_routes.specs.Paths.{asked_box, asked_numbered_feature, asked_nothing}
 
 -- a method's name in a request's first line
 unfoldable pub name_of : Method → List ℕ
@@ -34,6 +34,7 @@ methods_of (asked_tile z x y format) = Get ∷ Head ∷ []
 methods_of (asked_feature id) = Get ∷ Head ∷ Put ∷ Delete ∷ []
 methods_of (asked_from id) = Get ∷ Head ∷ []
 methods_of (asked_page id) = Get ∷ Head ∷ []
+methods_of (asked_box bounds id) = Get ∷ Head ∷ []
 methods_of (asked_edits number) = Get ∷ Head ∷ []
 methods_of (asked_numbered number) = Post ∷ []
 methods_of (asked_numbered_feature id number) = Put ∷ []

@@ -11,6 +11,7 @@ use Rattle.matchit.specs.Router.{RouteOf, route_from, nearest}
 use Rattle.matchit.specs.Params.{walk, named}
 use Rattle.matchit.specs.Seek.{first}
 use Rattle.matchit.specs.declared.error.InsertError.{InsertError}
+use Rattle.feature_model.specs.declared.feature.WorldBox.{WorldBox}
 use Rattle.feature_model.specs.declared.limits.TheConstants.{MAX_ZOOM}
 use Rattle.tile_routes.specs.declared.access.Access.{Access}
 use Rattle.tile_routes.specs.declared.access.Access.TheVariants.{Map, Admin}
@@ -22,6 +23,7 @@ use Rattle.tile_routes.specs.declared.target.TileFormat.{TileFormat}
 use Rattle.tile_routes.specs.declared.target.TileFormat.TheVariants.{Mvt, Hex}
 use Rattle.tile_routes.specs.declared.target.View.{View}
 use Rattle.tile_routes.specs.declared.target.View.TheVariants as views
+use Rattle.tile_routes.specs.Boxes.{box_of}
 use Rattle.tile_routes.specs.Number.{number_of}
 
 -- the rows with a route's text in its place
@@ -61,6 +63,7 @@ served_paths =
     ∷ (codes "/admin/status", routes.View views.Status)
     ∷ (codes "/admin/features/from/{id}", routes.FeatureFrom)
     ∷ (codes "/admin/features/page/{id}", routes.FeaturePage)
+    ∷ (codes "/admin/features/box/{box}/from/{id}", routes.FeatureBox)
     ∷ (codes "/admin/edits", routes.Action actions.CheckedEdits)
     ∷ (codes "/admin/edits/from/{number}", routes.EditsFrom)
     ∷ (codes "/admin/edits/at/{number}", routes.EditsAt)
@@ -79,6 +82,8 @@ pub data Asked : Type 0 where
   asked_from : ℕ → Asked
   -- a page of the features from this number on
   asked_page : ℕ → Asked
+  -- a page of those whose bounding boxes meet this box
+  asked_box : WorldBox → ℕ → Asked
   -- the edits from this number on
   asked_edits : ℕ → Asked
   -- an edit, if it gets this number
@@ -117,6 +122,11 @@ from_asked (Some id) = asked_from id
 abbrev pub page_asked : Option ℕ → Asked
 page_asked None = asked_nothing
 page_asked (Some id) = asked_page id
+
+abbrev pub box_asked : Option WorldBox → Option ℕ → Asked
+box_asked (Some bounds) (Some id) = asked_box bounds id
+box_asked (Some bounds) None = asked_nothing
+box_asked None id = asked_nothing
 
 abbrev pub edits_asked : Option ℕ → Asked
 edits_asked None = asked_nothing
@@ -157,6 +167,7 @@ asked_on routes.Tile parts =
 asked_on routes.Feature parts = feature_asked (number_of (part_named (codes "id") parts))
 asked_on routes.FeatureFrom parts = from_asked (number_of (part_named (codes "id") parts))
 asked_on routes.FeaturePage parts = page_asked (number_of (part_named (codes "id") parts))
+asked_on routes.FeatureBox parts = box_asked (box_of (part_named (codes "box") parts)) (number_of (part_named (codes "id") parts))
 asked_on routes.EditsFrom parts = edits_asked (number_of (part_named (codes "number") parts))
 asked_on routes.EditsAt parts = numbered_asked (number_of (part_named (codes "number") parts))
 asked_on routes.FeatureAt parts =
@@ -178,6 +189,7 @@ asked_by path = if list_all is_ascii path then asked_at (first served_rows path)
 abbrev pub is_admin : Asked → Bool
 is_admin (asked_from id) = true
 is_admin (asked_page id) = true
+is_admin (asked_box bounds id) = true
 is_admin (asked_edits number) = true
 is_admin (asked_numbered number) = true
 is_admin (asked_numbered_feature id number) = true

@@ -25,6 +25,7 @@ impl Target {
                 Access::Map,
                 Target::FeatureFrom(_)
                 | Target::FeaturePage(_)
+                | Target::FeatureBox(..)
                 | Target::EditsFrom(_)
                 | Target::EditsAt(_)
                 | Target::FeatureAt(..)

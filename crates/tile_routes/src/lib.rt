@@ -2,6 +2,7 @@
 #![tactic(auto)]
 
 mod access;
+mod boxes;
 mod fault;
 mod method;
 mod number;

@@ -55,6 +55,7 @@ impl Target {
             Target::Tile(..)
             | Target::FeatureFrom(_)
             | Target::FeaturePage(_)
+            | Target::FeatureBox(..)
             | Target::EditsFrom(_)
             | Target::View(_) => &[Method::Get, Method::Head],
             Target::Feature(_) => &[Method::Get, Method::Head, Method::Put, Method::Delete],
@@ -93,6 +94,7 @@ impl Target {
             Target::Tile(..)
             | Target::FeatureFrom(_)
             | Target::FeaturePage(_)
+            | Target::FeatureBox(..)
             | Target::EditsFrom(_)
             | Target::View(_) => "GET, HEAD",
             Target::Feature(_) => "GET, HEAD, PUT, DELETE",

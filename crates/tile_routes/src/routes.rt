@@ -10,8 +10,8 @@ ghost use Rattle.tile_routes.specs.Targets.{asked_of, IsInRange, parts_of, row_p
 
 use crate::parts::requested_tile;
 use crate::target::{
-    Action, Target, View, edits_target, feature_target, from_target, numbered_feature_target,
-    numbered_target, page_target,
+    Action, Target, View, box_target, edits_target, feature_target, from_target,
+    numbered_feature_target, numbered_target, page_target,
 };
 use matchit::{InsertError, Params, Router};
 use std::alloc::{AllocError, Global};
@@ -24,6 +24,7 @@ pub(crate) enum Route {
     Feature,
     FeatureFrom,
     FeaturePage,
+    FeatureBox,
     EditsFrom,
     EditsAt,
     FeatureAt,
@@ -63,6 +64,7 @@ const SERVED: &[(&str, Route)] = &[
     ("/admin/status", Route::View(View::Status)),
     ("/admin/features/from/{id}", Route::FeatureFrom),
     ("/admin/features/page/{id}", Route::FeaturePage),
+    ("/admin/features/box/{box}/from/{id}", Route::FeatureBox),
     ("/admin/edits", Route::Action(Action::CheckedEdits)),
     ("/admin/edits/from/{number}", Route::EditsFrom),
     ("/admin/edits/at/{number}", Route::EditsAt),
@@ -132,6 +134,7 @@ fn route_target(route: Route, params: &Params<'_, '_>, path: &[u8]) -> Target
         Route::Feature => feature_target(part(params, "id")),
         Route::FeatureFrom => from_target(part(params, "id")),
         Route::FeaturePage => page_target(part(params, "id")),
+        Route::FeatureBox => box_target(part(params, "box"), part(params, "id")),
         Route::EditsFrom => edits_target(part(params, "number")),
         Route::EditsAt => numbered_target(part(params, "number")),
         Route::FeatureAt => numbered_feature_target(part(params, "id"), part(params, "number")),

@@ -1,14 +1,15 @@
 //! What a path can ask for.
 ghost use Rattle.std.specs.Prelude.{◌≡◌, IsTrue};
 ghost use Rattle.std.specs.Option.{option_map};
+ghost use Rattle.tile_routes.specs.Boxes.{box_of};
 ghost use Rattle.tile_routes.specs.Number.{number_of};
 ghost use Rattle.tile_routes.specs.Paths.{asked_tile, is_served, feature_asked, from_asked, page_asked, edits_asked, numbered_asked, named_tile};
-ghost use Rattle.tile_routes.specs.Paths.{numbered_feature_asked};
-ghost use Rattle.tile_routes.specs.Paths.{row_and_format};
+ghost use Rattle.tile_routes.specs.Paths.{box_asked, numbered_feature_asked, row_and_format};
 ghost use Rattle.tile_routes.specs.Targets.{asked_of, IsInRange, row_view};
 
+use crate::boxes::path_box;
 use crate::number::path_number;
-use feature_model::MAX_ZOOM;
+use feature_model::{MAX_ZOOM, WorldBox};
 use hilbert_id::TileAt;
 
 /// How a tile is written in its reply.
@@ -60,6 +61,8 @@ pub enum Target {
     FeatureFrom(u64),
     /// `/admin/features/page/{id}`: the features from this number on, a page of them; the number is below `feature_model::NUMBER_END`.
     FeaturePage(u64),
+    /// `/admin/features/box/{x0},{y0},{x1},{y1}/from/{id}`: those of these features whose bounding boxes meet a box, a page of them.
+    FeatureBox(WorldBox, u64),
     /// `/admin/edits/from/{number}`: the edits from this number on that the journal still has; the number is below
     /// `feature_model::NUMBER_END`.
     EditsFrom(u64),
@@ -107,6 +110,17 @@ pub(crate) fn page_target(id: &[u8]) -> Target
     match path_number(id) {
         Some(id) => Target::FeaturePage(id),
         None => Target::Nothing,
+    }
+}
+
+/// A page of the features in the box that a text writes, from the number that another one writes on.
+pub(crate) fn box_target(bounds: &[u8], id: &[u8]) -> Target
+    ensures asked { asked_of result ≡ box_asked (box_of bounds.now) (number_of id.now) }
+    ensures range { IsInRange result }
+{
+    match (path_box(bounds), path_number(id)) {
+        (Some(bounds), Some(id)) => Target::FeatureBox(bounds, id),
+        _ => Target::Nothing,
     }
 }
 

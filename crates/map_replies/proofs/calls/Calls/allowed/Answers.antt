@@ -72,6 +72,16 @@ returns-in-FeaturePage-clause-words g c = whole_words c.feature_page.result c.fe
 pub returns-in-FeaturePage-clause-held : goal.returns-in-FeaturePage-clause-held
 returns-in-FeaturePage-clause-held g c = c.feature_page.ensures.held
 
+pub returns-in-FeatureBox-clause-answered : goal.returns-in-FeatureBox-clause-answered
+returns-in-FeatureBox-clause-answered g c =
+    rw c.in-FeatureBox.is (whole_answer _ _ c.box_page.result c.box_page.ensures.answered c.box_page.ensures.writable)
+
+pub returns-in-FeatureBox-clause-words : goal.returns-in-FeatureBox-clause-words
+returns-in-FeatureBox-clause-words g c = whole_words c.box_page.result c.box_page.ensures.writable
+
+pub returns-in-FeatureBox-clause-held : goal.returns-in-FeatureBox-clause-held
+returns-in-FeatureBox-clause-held g c = c.box_page.ensures.held
+
 pub returns-in-EditsAt-clause-answered : goal.returns-in-EditsAt-clause-answered
 returns-in-EditsAt-clause-answered g c =
     rw c.in-EditsAt.is (whole_answer _ _ c.numbered_batch.result c.numbered_batch.ensures.answered c.numbered_batch.ensures.writable)
@@ -99,6 +109,9 @@ returns-in-View-clause-oldest g c = archives_stay (asked_of c.args.target) c.on_
 
 pub returns-in-FeaturePage-clause-oldest : goal.returns-in-FeaturePage-clause-oldest
 returns-in-FeaturePage-clause-oldest g c = archives_stay (asked_of c.args.target) c.feature_page.result _ _ c.feature_page.ensures.oldest
+
+pub returns-in-FeatureBox-clause-oldest : goal.returns-in-FeatureBox-clause-oldest
+returns-in-FeatureBox-clause-oldest g c = archives_stay (asked_of c.args.target) c.box_page.result _ _ c.box_page.ensures.oldest
 
 pub returns-in-EditsAt-clause-oldest : goal.returns-in-EditsAt-clause-oldest
 returns-in-EditsAt-clause-oldest g c = archives_stay (asked_of c.args.target) c.numbered_batch.result _ _ c.numbered_batch.ensures.oldest
