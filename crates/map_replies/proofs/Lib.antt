@@ -29,3 +29,5 @@ mod PageLemmas
 mod TagLemmas
 mod LimitNumbers
 mod WholeSteps
+mod OneMethod
+pub mod Quiet

@@ -430,6 +430,7 @@ module _ {D : Type 0} (sectors : D → ℕ) (honest : D → Type 0) (history : D
             ap (λ (r : MapReplies D). settings_of r) same,
             late_held outcome late,
             inl (ap (λ (c : Calls D). c.oldest) late.same),
+            late,
           )),
           record {
             here = refl;
@@ -488,6 +489,7 @@ module _ {D : Type 0} (sectors : D → ℕ) (honest : D → Type 0) (history : D
               ap (λ (r : MapReplies D). settings_of r) same,
               ends.held,
               whole_archives ends,
+              ends.takes.takes,
             )),
             record {
               here = refl;
@@ -528,6 +530,7 @@ module _ {D : Type 0} (sectors : D → ℕ) (honest : D → Type 0) (history : D
               ap (λ (r : MapReplies D). settings_of r) same,
               (λ place ticketed held. subst (λ (c : Calls D). IsHeld honest history place ticketed c.oldest c.service) (sym stays) held),
               inl (ap (λ (c : Calls D). c.oldest) stays),
+              ap (λ (c : Calls D). c.service) stays,
             )),
             record {
               here = refl;

@@ -20,7 +20,7 @@ use Rattle.tile_routes.specs.declared.target.View.TheVariants.{Metadata}
 use Rattle.tile_service.specs.Drafted.{DraftedView}
 use Rattle.tile_service.specs.Machine.{Happening, begin, step, cancel}
 use Rattle.tile_service.specs.Prepared.{CanPrepare}
-use Rattle.tile_service.specs.Runs.{IsUnfinished, Takes, TakesRest}
+use Rattle.tile_service.specs.Runs.{IsUnfinished, Takes, TakesAll, TakesRest}
 use Rattle.tile_service.specs.Service.{PublicationView, ServiceView, IsUp, BeginsDrafted, TellsDevice, drafted_now, left_of, status_of}
 use Rattle.tile_service.specs.Stored.{Stored}
 use Rattle.tile_service.specs.declared.fault.ServiceFault.{ServiceFault}
@@ -331,6 +331,7 @@ module _ {D : Type 0} (sectors : D → ℕ) (honest : D → Type 0) (history : D
       × (settings_of new.replies.replies ≡ settings_of old.replies.replies)
       × KeepsTickets honest history old.replies.replies.calls new.replies.replies.calls
       × KeepsArchivesOn old.replies.replies request reply new.replies.replies
+      × BeginsLate old.replies.replies.calls outcome new.replies.replies.calls
 
   -- The answer to a whole publication, whose beginning stands in the run where its map was fixed, so that its archive has what was acknowledged
   -- before, and nothing that was requested later. Since then only steps of it were made, and calls that have nothing to do with publications. The
@@ -344,6 +345,7 @@ module _ {D : Type 0} (sectors : D → ℕ) (honest : D → Type 0) (history : D
       × (settings_of new.replies.replies ≡ settings_of old.replies.replies)
       × KeepsTickets honest history old.replies.replies.calls new.replies.replies.calls
       × KeepsArchivesOn old.replies.replies request reply new.replies.replies
+      × TakesAll sectors honest history (inner_service old.replies) (map step steps) (inner_service new.replies)
 
   abbrev pub TellsMeanwhile : Meanwhile D → RequestView → ReplyView → Meanwhile D → Type 0
   TellsMeanwhile old request reply new =

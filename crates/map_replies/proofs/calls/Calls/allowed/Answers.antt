@@ -121,7 +121,7 @@ returns-in-Action-clause-oldest g c = rw c.in-Action.is c.on_action.ensures.olde
 
 pub returns-in-FeatureAt-clause-answered : goal.returns-in-FeatureAt-clause-answered
 returns-in-FeatureAt-clause-answered g c =
-    rw (c.in-FeatureAt.is, ← c.needed.ensures) (whole_answer _ _ c.numbered_put.result c.numbered_put.ensures.answered c.numbered_put.ensures.writable)
+    rw (c.in-FeatureAt.is, ← c.needed-in-FeatureAt.ensures) (whole_answer _ _ c.numbered_put.result c.numbered_put.ensures.answered c.numbered_put.ensures.writable)
 
 pub returns-in-FeatureAt-clause-words : goal.returns-in-FeatureAt-clause-words
 returns-in-FeatureAt-clause-words g c = whole_words c.numbered_put.result c.numbered_put.ensures.writable

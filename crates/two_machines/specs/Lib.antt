@@ -1,0 +1,2 @@
+pub mod Couriers
+pub mod Machines
