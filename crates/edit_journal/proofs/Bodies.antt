@@ -9,7 +9,7 @@ use Rattle.sector_disk.specs.declared.disk.DiskFault.{DiskFault}
 use Rattle.sector_disk.proofs.History.{started, seen_same, seen_other, any_write, write_within, write_leaves, any_sync, sync_within, sync_leaves, fits_image}
 use Rattle.edit_journal.specs.Records.{RecordData, parts_of, record_sector}
 use Rattle.edit_journal.specs.Ring.{Ring, sector_at}
-use Rattle.edit_journal.specs.Appends.{OldOrBody, ReadsAsBefore, BodiesStand, syncs_of}
+use Rattle.edit_journal.specs.Appends.{OldOrBody, ReadsBeside, BodiesStand, syncs_of}
 use Rattle.edit_journal.proofs.Places.{places_apart}
 
 -- a write changes no other sector that is read
@@ -23,10 +23,10 @@ pub sync_reads : (result : Result (Unit {0}) DiskFault) (old new : History) (at 
 sync_reads result old new at syncs = ⊎_elim (λ (same : new ≡ old). ap (λ (h : History). seen h at) same)
     (λ (is : new ≡ synced old). ap (λ (h : History). seen h at) is) (any_sync result old new syncs)
 
--- so it changes none that isn't free
-pub synced_reads : (start : History) (ring : Ring) (place used : ℕ) (result : Result (Unit {0}) DiskFault) (old new : History) → Syncs result old new
-    → ReadsAsBefore ring place used (seen start) (seen old) → ReadsAsBefore ring place used (seen start) (seen new)
-synced_reads start ring place used result old new syncs was at taken = sync_reads result old new at syncs ∙ was at taken
+-- so it changes none beside those of a record
+pub synced_reads : (start : History) (ring : Ring) (place used parts : ℕ) (result : Result (Unit {0}) DiskFault) (old new : History) → Syncs result old new
+    → ReadsBeside ring place used parts (seen start) (seen old) → ReadsBeside ring place used parts (seen start) (seen new)
+synced_reads start ring place used parts result old new syncs was at apart = sync_reads result old new at syncs ∙ was at apart
 
 -- once they are synced a crash leaves the bodies that a read gives
 pub synced_bodies : (ring : Ring) (place used number : ℕ) (r : RecordData) (old new : History) (count : ℕ) → new ≡ synced old
@@ -68,9 +68,9 @@ module _ (start : History) (ring : Ring) (place used number : ℕ) (r : RecordDa
     body_leaves was so_far = write_leaves start old new at sector Staged written so_far
         (fits_image new (OldOrBody start ring place used number r) Staged (body_within was) (λ image fits. fits))
 
-    pub body_reads : ReadsAsBefore ring place used (seen start) (seen old) → ReadsAsBefore ring place used (seen start) (seen new)
-    body_reads was other taken = write_reads at sector old new other written
-        (λ e. taken (used + part, omega arith, omega (arith, room, lt), e ∙ at_is)) ∙ was other taken
+    pub body_reads : ReadsBeside ring place used (parts_of (length r.text)) (seen start) (seen old)
+        → ReadsBeside ring place used (parts_of (length r.text)) (seen start) (seen new)
+    body_reads was other apart = write_reads at sector old new other written (λ e. apart (part, lt, e ∙ at_is)) ∙ was other apart
 
   -- the bodies are synced, reported as done or as failed
   module _ (result : Result (Unit {0}) DiskFault) (old new : History) (syncs : Syncs result old new)

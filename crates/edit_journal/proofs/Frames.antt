@@ -1,13 +1,18 @@
 -- The sectors that aren't free are as they were.
-use Rattle.std.proofs.Common.{◌≡◌, inl, inr, ℕ, ◌≤◌, ◌+◌, ◌∙◌, List, length, arith, Result}
-use Rattle.sector_disk.specs.Disk.{History, seen, MayHold, Writes, Syncs}
+use Rattle.std.proofs.Common.{◌≡◌, inl, inr, ⊎_elim, ℕ, ◌<◌, ◌≤◌, ◌+◌, ◌∙◌, List, length, sym, ap, subst, arith, Result}
+use Rattle.std.proofs.lemmas.Bool.{cases_eq}
+use Rattle.sector_disk.specs.Disk.{History, Image, seen, MayHold, Writes, Syncs}
+use Rattle.sector_disk.specs.Disk.History.{wrote}
 use Rattle.sector_disk.specs.Moments.{Within, LeavesOnly}
 use Rattle.sector_disk.specs.declared.disk.DiskFault.{DiskFault}
-use Rattle.sector_disk.proofs.History.{started, fits_image, any_write, write_within, write_leaves, any_sync, sync_within, sync_leaves, weaken}
-use Rattle.edit_journal.specs.Records.{RecordData, parts_of}
+use Rattle.sector_disk.proofs.History.{started, seen_may, seen_same, seen_other, fits_image, any_write, write_within, write_leaves, any_sync, sync_within, sync_leaves, weaken}
+use Rattle.edit_journal.specs.Records.{RecordData, parts_of, record_sector, IsPart}
 use Rattle.edit_journal.specs.Ring.{Ring, sector_at}
-use Rattle.edit_journal.specs.Appends.{IsFree, AsBefore, OldOrBody, ReadsAsBefore}
+use Rattle.edit_journal.specs.Appends.{IsFree, AsBefore, OldOrBody, ReadsAsBefore, IsNew, ReadsBeside, BodiesStand}
+use Rattle.edit_journal.specs.Recovers.{PartsStand}
 use Rattle.edit_journal.proofs.Bodies.{write_reads, sync_reads}
+use Rattle.edit_journal.proofs.Laws.{written_is_part}
+use Rattle.edit_journal.proofs.Places.{places_apart}
 
 -- a text that isn't empty has a part
 pub some_parts : (bytes : ℕ) → 1 ≤ bytes → 1 ≤ parts_of bytes
@@ -45,9 +50,12 @@ module _ (start : History) (ring : Ring) (place used number : ℕ) (r : RecordDa
           (fits_image written Old (AsBefore ring place used start) head_old (λ image fits. fits))
 
       -- a read gives of each other sector what it gave
-      pub head_reads : ReadsAsBefore ring place used (seen start) (seen staged) → ReadsAsBefore ring place used (seen start) (seen written)
-      head_reads was other taken = write_reads at head staged written other (any_write reported at head staged written writes)
-          (λ e. taken (used, omega arith, omega (arith, some, room), e ∙ at_is)) ∙ was other taken
+      pub head_reads : ReadsBeside ring place used (parts_of (length r.text)) (seen start) (seen staged)
+          → ReadsBeside ring place used (parts_of (length r.text)) (seen start) (seen written)
+      head_reads was other apart =
+          let same : place + used ≡ place + (used + 0) = omega arith in
+          write_reads at head staged written other (any_write reported at head staged written writes)
+          (λ e. apart (0, omega (arith, some), e ∙ at_is ∙ ap (sector_at ring) same)) ∙ was other apart
 
       module _ (result : Result (Unit {0}) DiskFault) (after : History) (syncs : Syncs result written after) where
         pub frame_end : LeavesOnly start after (AsBefore ring place used start)
@@ -55,5 +63,31 @@ module _ (start : History) (ring : Ring) (place used number : ℕ) (r : RecordDa
             (fits_image after Old (AsBefore ring place used start) (sync_within written after Old (any_sync result written after syncs) head_old)
             (λ image fits. fits))
 
-        pub end_reads : ReadsAsBefore ring place used (seen start) (seen staged) → ReadsAsBefore ring place used (seen start) (seen after)
-        end_reads was other taken = sync_reads result written after other syncs ∙ head_reads was other taken
+        pub end_reads : ReadsBeside ring place used (parts_of (length r.text)) (seen start) (seen staged)
+            → ReadsBeside ring place used (parts_of (length r.text)) (seen start) (seen after)
+        end_reads was other apart = sync_reads result written after other syncs ∙ head_reads was other apart
+
+        -- and of each part it gives what was written
+        pub end_stands : place < ring.places → BodiesStand staged ring place used number r → head ≡ record_sector r.version number r.text 0
+            → written ≡ wrote at head staged → PartsStand ring place used number r (seen after)
+        end_stands begins bodies is written_is part lt =
+            let x : ℕ = sector_at ring (place + (used + part)) in
+            let there : seen after x ≡ seen (wrote at head staged) x =
+            sync_reads result written after x syncs ∙ ap (λ (h : History). seen h x) written_is in
+            let sector_is : seen after x ≡ record_sector r.version number r.text part = there ∙ ⊎_elim
+            (λ (first : part ≡ 0).
+            let same : place + (used + part) ≡ place + used = omega (arith, first) in
+            seen_same at head staged x (ap (sector_at ring) same ∙ sym at_is) ∙ is
+            ∙ ap (λ (p : ℕ). record_sector r.version number r.text p) (sym first))
+            (λ (later : part ≡ 0 → ⊥).
+            seen_other at head staged x (λ e. places_apart ring (place + (used + part)) (place + used) (omega (arith, begins, room, lt))
+            (omega (arith, begins, room, lt)) (omega (arith, room, lt)) (omega (arith, room, lt)) (λ same. later (omega (arith, same))) (e ∙ at_is))
+            ∙ bodies part (seen staged x) (omega (arith, later)) lt (seen_may staged x))
+            (cases_eq part 0) in
+            subst (λ (s : List ℕ). IsPart r.version number r.text part s) (sym sector_is) (written_is_part r.version number r.text part)
+
+-- the sectors of a record were free
+pub beside_reads : (ring : Ring) (place used parts : ℕ) (old new : Image) → used + parts ≤ ring.places → ReadsBeside ring place used parts old new
+    → ReadsAsBefore ring place used old new
+beside_reads ring place used parts old new room was at taken =
+    was at (λ (is : IsNew ring place used parts at). taken (used + is.0, omega arith, omega (arith, room, is.1), is.2))

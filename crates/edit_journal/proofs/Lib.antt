@@ -4,6 +4,7 @@ mod Frames
 mod Fronts
 mod Heads
 mod Joined
+pub mod Kept
 mod LimitNumbers
 pub mod Laws
 pub mod Pieces

@@ -1,7 +1,7 @@
 -- The limits of records, and the form of their sectors, as numbers.
 use Rattle.std.proofs.Common.{◌≡◌, refl}
 use Rattle.edit_journal.specs.declared.sizes.TheConstants.{FIRST_RECORD_VERSION, LAST_RECORD_VERSION, MAX_RECORD_BYTES}
-use Rattle.edit_journal.specs.declared.sizes.TheConstants.{FRONT_BYTES, PART_BYTES, HEAD_KIND, BODY_KIND}
+use Rattle.edit_journal.specs.declared.sizes.TheConstants.{FRONT_BYTES, PART_BYTES, HEAD_KIND, BODY_KIND, FREED_PART}
 
 front_bytes_is : FRONT_BYTES ≡ 16
 front_bytes_is = refl
@@ -23,3 +23,6 @@ last_record_version_is = refl
 
 max_record_bytes_is : MAX_RECORD_BYTES ≡ 32768
 max_record_bytes_is = refl
+
+freed_part_is : FREED_PART ≡ 64
+freed_part_is = refl

@@ -5,7 +5,6 @@ use Rattle.std.specs.Prelude.{IsTrue, nat_lt}
 use Rattle.std.proofs.lemmas.Bool.{cases_lt}
 use Rattle.std.proofs.lemmas.Bool.Decides.{nat_tests}
 use Rattle.std.proofs.lemmas.List.{append-nil, take-append-drop, length-take-le}
-use Rattle.std.proofs.Math.Seq.{drop-length}
 use Rattle.sector_disk.specs.Disk.{History, Image, seen}
 use Rattle.sector_disk.proofs.History.{seen_may}
 use Rattle.edit_journal.specs.declared.journal.Journal.{Journal}
@@ -212,7 +211,7 @@ in_use_taken journal offset lt free =
     (omega (arith, free.2, journal.begins)) (omega (arith, lt, journal.room)) (omega (arith, free.2)) (λ same. omega (arith, same, lt, free.1)) free.3
 
 -- a sector says of the records what it said where it is unchanged, if it is one of theirs
-stands_on : (ring : Ring) (start : RecordStart) (rs : List RecordData) (at : ℕ) (old new : List ℕ)
+pub stands_on : (ring : Ring) (start : RecordStart) (rs : List RecordData) (at : ℕ) (old new : List ℕ)
     → ((offset : ℕ) → offset < places_of rs → at ≡ sector_at ring (start.place + offset) → new ≡ old)
     → StandsAt ring start rs at old → StandsAt ring start rs at new
 stands_on ring start [] at old new same stands = tt

@@ -17,7 +17,7 @@ use Rattle.edit_journal.proofs.Places.{wrap}
 -- ---- how many places lie before a start
 
 -- one count of places goes with the place and the count of records
-one_behind : (n place records some other : ℕ) → place < n → some ≤ n → other ≤ n → MayTake records some → MayTake records other
+pub one_behind : (n place records some other : ℕ) → place < n → some ≤ n → other ≤ n → MayTake records some → MayTake records other
     → (place + some) % n ≡ (place + other) % n → some ≡ other
 one_behind n place records some other begins fits fits_too takes takes_too same = ⊎_elim
     (λ (a : (place + some < n) × ((place + some) % n ≡ place + some)). ⊎_elim
@@ -49,13 +49,13 @@ first_records rs zero are = tt
 first_records [] (suc count) are = tt
 first_records (r ∷ rs) (suc count) are = (are.0, first_records rs count are.1)
 
-first_take : (rs : List RecordData) (count : ℕ) → AreRecords rs → count ≤ length rs → MayTake count (places_of (take count rs))
+pub first_take : (rs : List RecordData) (count : ℕ) → AreRecords rs → count ≤ length rs → MayTake count (places_of (take count rs))
 first_take rs count are le =
     let len : length (take count rs) ≡ count = omega (arith, length-take count rs, le) in
     subst (λ (n : ℕ). MayTake n (places_of (take count rs))) len (records_take (take count rs) (first_records rs count are))
 
 -- only the place in the ring counts
-stands_round : (ring : Ring) (place other number : ℕ) (rs : List RecordData) (at : ℕ) (sector : List ℕ)
+pub stands_round : (ring : Ring) (place other number : ℕ) (rs : List RecordData) (at : ℕ) (sector : List ℕ)
     → ((offset : ℕ) → sector_at ring (other + offset) ≡ sector_at ring (place + offset))
     → StandsAt ring (record { place = place; number = number }) rs at sector
     → StandsAt ring (record { place = other; number = number }) rs at sector

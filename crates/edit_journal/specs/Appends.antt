@@ -39,6 +39,14 @@ AsBefore ring place used old image = (at : ℕ) → (IsFree ring place used at �
 abbrev pub ReadsAsBefore : Ring → (place used : ℕ) → (old new : Image) → Type 0
 ReadsAsBefore ring place used old new = (at : ℕ) → (IsFree ring place used at → ⊥) → new at ≡ old at
 
+-- the sector is that of one of the next record's parts, which follow the places in use
+abbrev pub IsNew : Ring → (place used parts at : ℕ) → Type 0
+IsNew ring place used parts at = (part : ℕ) × (part < parts) × (at ≡ sector_at ring (place + (used + part)))
+
+-- a read gives of each sector but these what it gave
+abbrev pub ReadsBeside : Ring → (place used parts : ℕ) → (old new : Image) → Type 0
+ReadsBeside ring place used parts old new = (at : ℕ) → (IsNew ring place used parts at → ⊥) → new at ≡ old at
+
 -- the image holds the records, or the records with this one
 abbrev pub HoldsOneMore : Ring → RecordStart → List RecordData → RecordData → Image → Type 0
 HoldsOneMore ring start records r image = HoldsOnly ring start records image ⊎ HoldsOnly ring start (records ++ r ∷ []) image

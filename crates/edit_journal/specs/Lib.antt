@@ -1,4 +1,5 @@
 pub mod Appends
+pub mod Kept
 pub mod Lists
 pub mod Records
 pub mod Recovers

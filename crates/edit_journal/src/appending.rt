@@ -5,8 +5,9 @@ ghost use Rattle.sector_disk.specs.Disk.{seen};
 ghost use Rattle.sector_disk.specs.Moments.{Within, LeavesOnly};
 ghost use Rattle.edit_journal.specs.Records.{RecordData, record_of, IsRecordLength, parts_of};
 ghost use Rattle.edit_journal.specs.Ring.{sector_at};
-ghost use Rattle.edit_journal.specs.Appends.{ring_of, start_of, Keeps, IsAt, AsBefore, ReadsAsBefore, HoldsOneMore, OldOrBody, BodiesStand};
+ghost use Rattle.edit_journal.specs.Appends.{ring_of, start_of, Keeps, IsAt, AsBefore, ReadsAsBefore, ReadsBeside, HoldsOneMore, OldOrBody, BodiesStand};
 ghost use Rattle.edit_journal.specs.Appends.{writes_in, syncs_in, syncs_of, TakesSteps, IsAppendFault};
+ghost use Rattle.edit_journal.specs.Recovers.{PartsStand};
 ghost use Rattle.edit_journal.specs.declared.fault.JournalFault.TheVariants.{Device};
 
 use crate::encoding::{count_parts, part_sector};
@@ -39,7 +40,8 @@ fn stage<D: Sectors>(
     ensures disk { MayWrite D.sectors D.honest disk.old disk.new }
     ensures failed { TellsFailure result (D.faults disk.old) (D.faults disk.new) }
     ensures reads { D.honest disk.new
-        → ReadsAsBefore (ring_of journal.now) journal.now.place journal.now.used (seen (D.history disk.old)) (seen (D.history disk.new)) }
+        → ReadsBeside (ring_of journal.now) journal.now.place journal.now.used (parts_of (length text.now)) (seen (D.history disk.old))
+        (seen (D.history disk.new)) }
     ensures leaves { D.honest disk.new → LeavesOnly (D.history disk.old) (D.history disk.new) (λ image. (at : ℕ)
         → OldOrBody (D.history disk.old) (ring_of journal.now) journal.now.place journal.now.used number (record_of version text.now) at (image at)) }
     ensures within { D.honest disk.new → Within (D.history disk.new)
@@ -79,7 +81,8 @@ fn write_record<D: Sectors>(
     ensures disk { MayWrite D.sectors D.honest disk.old disk.new }
     ensures failed { TellsFailure result (D.faults disk.old) (D.faults disk.new) }
     ensures reads { D.honest disk.new
-        → ReadsAsBefore (ring_of journal.now) journal.now.place journal.now.used (seen (D.history disk.old)) (seen (D.history disk.new)) }
+        → ReadsBeside (ring_of journal.now) journal.now.place journal.now.used (parts_of (length text.now)) (seen (D.history disk.old))
+        (seen (D.history disk.new)) }
     ensures frame { D.honest disk.new
         → LeavesOnly (D.history disk.old) (D.history disk.new) (AsBefore (ring_of journal.now) journal.now.place journal.now.used (D.history disk.old)) }
     ensures any_moment { (records : List RecordData) → D.honest disk.new → IsAt records journal.now (D.history disk.old)
@@ -88,6 +91,8 @@ fn write_record<D: Sectors>(
     ensures acknowledged { (records : List RecordData) → D.honest disk.new → IsAt records journal.now (D.history disk.old)
         → OnOk result (Keeps (ring_of journal.now) journal.now.place journal.now.edits (journal.now.used + parts_of (length text.now)) (journal.now.last + 1)
         (records ++ record_of version text.now ∷ []) (D.history disk.new)) }
+    ensures stands { D.honest disk.new → OnOk result (PartsStand (ring_of journal.now) journal.now.place journal.now.used (journal.now.last + 1)
+        (record_of version text.now) (seen (D.history disk.new))) }
     ensures steps { D.honest disk.new → OnOk result (TakesSteps (parts_of (length text.now)) (D.history disk.old) (D.history disk.new)) }
 {
     let number = journal.last + 1;
@@ -125,6 +130,12 @@ impl Journal {
             → ReadsAsBefore (ring_of self.old) self.old.place self.old.used (seen (D.history disk.old)) (seen (D.history disk.new)) }
         ensures frame { D.honest disk.new
             → LeavesOnly (D.history disk.old) (D.history disk.new) (AsBefore (ring_of self.old) self.old.place self.old.used (D.history disk.old)) }
+
+        // Only the sectors of the record's parts are written, and after `Ok` a read gives the record there.
+        ensures beside { D.honest disk.new → ReadsBeside (ring_of self.old) self.old.place self.old.used (parts_of (length text.now))
+            (seen (D.history disk.old)) (seen (D.history disk.new)) }
+        ensures stands { D.honest disk.new → OnOk result (PartsStand (ring_of self.old) self.old.place self.old.used (self.old.last + 1)
+            (record_of version text.now) (seen (D.history disk.new))) }
 
         // A crash at any moment of the call leaves the records from before it, with the new one or without.
         ensures any_moment { (records : List RecordData) → D.honest disk.new → IsAt records self.old (D.history disk.old)

@@ -6,6 +6,7 @@ mod encoding;
 mod fault;
 mod head;
 mod journal;
+mod keeping;
 mod listing;
 mod numbers;
 mod records;
@@ -20,6 +21,6 @@ pub use journal::{Journal, JournalPosition};
 pub use numbers::is_next;
 pub use records::Record;
 pub use sizes::{
-    BODY_KIND, FIRST_RECORD_VERSION, FRONT_BYTES, HEAD_KIND, LAST_RECORD_VERSION, MAX_RECORD_BYTES,
-    PART_BYTES,
+    BODY_KIND, FIRST_RECORD_VERSION, FREED_PART, FRONT_BYTES, HEAD_KIND, LAST_RECORD_VERSION,
+    MAX_RECORD_BYTES, PART_BYTES,
 };

@@ -92,7 +92,11 @@ impl Journal {
 
     /// How many places after the first record in use that of an edit begins: the first place of this number or of a later one, found by
     /// halving the places in use. For the number of the next edit it is their count.
-    fn offset_of<D: Sectors>(&self, disk: &mut D, number: u64) -> Result<u64, JournalFault>
+    pub(crate) fn offset_of<D: Sectors>(
+        &self,
+        disk: &mut D,
+        number: u64,
+    ) -> Result<u64, JournalFault>
         requires number { (self.now.edits < number) × (number ≤ self.now.last + 1) }
         requires ring { self.now.first + self.now.places ≤ D.sectors disk.old }
         ensures disk { OnlyReads D.sectors D.honest D.history disk.old disk.new }

@@ -1,10 +1,11 @@
 //! The release of records that are no longer needed.
-ghost use Rattle.std.specs.Prelude.{◌≡◌, ◌≤◌, ◌+◌, ◌%◌, ℕ, List, length, take, drop};
+ghost use Rattle.std.specs.Prelude.{◌≡◌, ◌≤◌, ◌+◌, ◌-◌, ◌%◌, ℕ, List, length, take, drop};
 ghost use Rattle.sector_disk.specs.Disk.{History};
 ghost use Rattle.edit_journal.specs.Records.{RecordData};
 ghost use Rattle.edit_journal.specs.Ring.{places_of};
 ghost use Rattle.edit_journal.specs.Appends.{ring_of, IsAt};
 ghost use Rattle.edit_journal.specs.Releases.{IsBehind, IsCounted};
+ghost use Rattle.edit_journal.specs.Kept.{GoesBack, HasOlder};
 
 use crate::journal::{Journal, JournalPosition};
 
@@ -46,6 +47,13 @@ impl Journal {
         ensures kept { (records : List RecordData) (count : ℕ) (history : History) → IsAt records self.old history → count ≤ length records
             → start.edits ≡ self.old.edits + count → start.place ≡ (self.old.place + places_of (take count records)) % self.old.places
             → IsAt (drop count records) self.new history }
+
+        // A journal that goes back from this one goes on to do so: it has the records that are released.
+        ensures back { (kept : Journal) → GoesBack kept self.old → GoesBack kept self.new }
+        ensures older { (kept : Journal) (records : List RecordData) (count : ℕ) (history : History) → HasOlder records kept self.old history
+            → self.old.edits + count ≤ self.old.last → start.edits ≡ self.old.edits + count
+            → start.place ≡ (self.old.place + places_of (take count (drop (self.old.edits - kept.edits) records))) % self.old.places
+            → kept.edits ≤ self.old.edits → HasOlder records kept self.new history }
     {
         let behind = self.places_before(start);
         self.used -= behind;

@@ -17,3 +17,6 @@ pub const FIRST_RECORD_VERSION: u32 = 1;
 pub const LAST_RECORD_VERSION: u32 = 2;
 /// The most bytes of the text of a record of the first version. One of the last version has at most a byte more, its count.
 pub const MAX_RECORD_BYTES: u32 = 32_768;
+/// Where first records have to go for a new one, places are freed for this part of the ring at least: so their start is looked for once
+/// in a while alone.
+pub const FREED_PART: u64 = 64;

@@ -74,7 +74,7 @@ returns-in_err-write-clause-within g c honest =
 pub returns-in_err-sync-clause-reads : goal.returns-in_err-sync-clause-reads
 returns-in_err-sync-clause-reads g c honest =
     let journal = c.args.journal.now in
-    synced_reads (g.D.Sectors.history c.args.disk.now) (ring_of journal) journal.place journal.used _ _ _ (c.sync.ensures.syncs honest)
+    synced_reads (g.D.Sectors.history c.args.disk.now) (ring_of journal) journal.place journal.used _ _ _ _ (c.sync.ensures.syncs honest)
     (c.loop-part.invariant.reads (c.sync.ensures.disk.was_honest honest))
 
 pub returns-in_err-sync-clause-within : goal.returns-in_err-sync-clause-within
@@ -93,7 +93,7 @@ returns-in_err-sync-clause-leaves g c honest =
 pub returns-in_ok-sync-clause-reads : goal.returns-in_ok-sync-clause-reads
 returns-in_ok-sync-clause-reads g c honest =
     let journal = c.args.journal.now in
-    synced_reads (g.D.Sectors.history c.args.disk.now) (ring_of journal) journal.place journal.used _ _ _ (c.sync.ensures.syncs honest)
+    synced_reads (g.D.Sectors.history c.args.disk.now) (ring_of journal) journal.place journal.used _ _ _ _ (c.sync.ensures.syncs honest)
     (c.loop-part.invariant.reads (c.sync.ensures.disk.was_honest honest))
 
 pub returns-in_ok-sync-clause-within : goal.returns-in_ok-sync-clause-within

@@ -3,7 +3,7 @@ use Rattle.std.proofs.lemmas.Result.{IfOk-from_err, MatchResult-from_err}
 use Rattle.sector_disk.proofs.AskedLaws.{writes_on}
 use Rattle.edit_journal.specs.Records.{record_of}
 use Rattle.edit_journal.specs.Appends.{ring_of, writes_in, syncs_in}
-use Rattle.edit_journal.proofs.Frames.{some_parts, frame_staged, frame_head, head_reads, frame_end, end_reads}
+use Rattle.edit_journal.proofs.Frames.{some_parts, frame_staged, frame_head, head_reads, frame_end, end_reads, end_stands}
 use Rattle.edit_journal.proofs.Heads.{on_ok, stage_leaves, head_leaves, end_leaves, end_keeps}
 use Rattle.edit_journal.proofs.appending.write_record.Goals as goal
 
@@ -81,6 +81,23 @@ returns-clause-acknowledged g c rs honest before =
     c.args.journal.now.begins c.requires.room (omega (arith, c.requires.next)) c.requires.text before _ (c.stage.ensures.within staged)
     (c.in_ok-stage.ensures.bodies staged) _ c.sector_of-at.ensures.is _ c.part_sector-head.ensures _ _ (c.write.ensures.writes written)
     (c.stage.ensures.leaves staged) _ _ (c.sync.ensures.syncs honest) (c.in_ok-write.ensures.writes written)
+
+pub returns-clause-stands : goal.returns-clause-stands
+returns-clause-stands g c honest =
+    let journal = c.args.journal.now in
+    let written = c.sync.ensures.disk.was_honest honest in
+    let staged = c.write.ensures.disk.was_honest written in
+    on_ok c.sync.result _ _ (c.sync.ensures.syncs honest)
+    (λ synced_is. end_stands _ (ring_of journal) journal.place journal.used (journal.last + 1) (record_of c.args.version c.args.text.now)
+    (some_parts _ c.requires.text.1) c.requires.room _ (c.stage.ensures.within staged) (c.stage.ensures.leaves staged) _ c.sector_of-at.ensures.is
+    _ _ _ (c.write.ensures.writes written) _ _ (c.sync.ensures.syncs honest) journal.begins (c.in_ok-stage.ensures.bodies staged)
+    c.part_sector-head.ensures (c.in_ok-write.ensures.writes written))
+
+pub returns-in_err-stage-clause-stands : goal.returns-in_err-stage-clause-stands
+returns-in_err-stage-clause-stands g c honest = IfOk-from_err _ _ c.from_residual.ensures.0
+
+pub returns-in_err-write-clause-stands : goal.returns-in_err-write-clause-stands
+returns-in_err-write-clause-stands g c honest = IfOk-from_err _ _ c.from_residual-in_err-write.ensures.0
 
 pub returns-clause-steps : goal.returns-clause-steps
 returns-clause-steps g c honest =

@@ -1,8 +1,8 @@
 use Rattle.std.proofs.lemmas.Grind.{common_steps}
-use Rattle.std.proofs.Common.{ℕ, ◌+◌, ◌++◌, ◌∷◌, [], refl, sym, ap, subst, arith}
-use Rattle.edit_journal.specs.Records.{record_of}
+use Rattle.std.proofs.Common.{ℕ, ◌+◌, ◌++◌, ◌∷◌, [], ◌≤◌, length, refl, sym, ap, subst, arith}
+use Rattle.edit_journal.specs.Records.{record_of, parts_of}
 use Rattle.edit_journal.specs.Appends.{ring_of, Keeps}
-use Rattle.edit_journal.proofs.Frames.{frame_start}
+use Rattle.edit_journal.proofs.Frames.{frame_start, beside_reads}
 use Rattle.edit_journal.proofs.Heads.{same_leaves}
 use Rattle.edit_journal.proofs.journal.Journal.append.Goals as goal
 
@@ -31,7 +31,13 @@ pub returns-in-Err-clause-disk : goal.returns-in-Err-clause-disk
 returns-in-Err-clause-disk g c = c.write_record.ensures.disk
 
 pub returns-in-Err-clause-reads : goal.returns-in-Err-clause-reads
-returns-in-Err-clause-reads g c = c.write_record.ensures.reads
+returns-in-Err-clause-reads g c honest =
+    let journal = c.args.self.now in
+    let room : journal.used + parts_of (length c.args.text.now) ≤ journal.places = grind (arith, common_steps) in
+    beside_reads (ring_of journal) journal.place journal.used (parts_of (length c.args.text.now)) _ _ room (c.write_record.ensures.reads honest)
+
+pub returns-in-Err-clause-beside : goal.returns-in-Err-clause-beside
+returns-in-Err-clause-beside g c = c.write_record.ensures.reads
 
 pub returns-in-Err-clause-frame : goal.returns-in-Err-clause-frame
 returns-in-Err-clause-frame g c = c.write_record.ensures.frame
@@ -43,7 +49,13 @@ pub returns-clause-disk : goal.returns-clause-disk
 returns-clause-disk g c = c.write_record.ensures.disk
 
 pub returns-clause-reads : goal.returns-clause-reads
-returns-clause-reads g c = c.write_record.ensures.reads
+returns-clause-reads g c honest =
+    let journal = c.args.self.now in
+    let room : journal.used + parts_of (length c.args.text.now) ≤ journal.places = grind (arith, common_steps) in
+    beside_reads (ring_of journal) journal.place journal.used (parts_of (length c.args.text.now)) _ _ room (c.write_record.ensures.reads honest)
+
+pub returns-clause-beside : goal.returns-clause-beside
+returns-clause-beside g c = c.write_record.ensures.reads
 
 pub returns-clause-frame : goal.returns-clause-frame
 returns-clause-frame g c = c.write_record.ensures.frame
@@ -59,6 +71,9 @@ returns-clause-acknowledged g c = λ rs honest before. subst
     (λ (parts : ℕ). Keeps (ring_of c.args.self.now) c.args.self.now.place c.args.self.now.edits (c.args.self.now.used + parts) (c.args.self.now.last + 1)
     (rs ++ record_of c.args.version c.args.text.now ∷ []) (g.D.Sectors.history c.write_record.new.disk))
     (sym c.count_parts-need.ensures) (c.in-Ok.ensures.acknowledged rs honest before)
+
+pub returns-clause-stands : goal.returns-clause-stands
+returns-clause-stands g c = c.in-Ok.ensures.stands
 
 pub returns-clause-used : goal.returns-clause-used
 returns-clause-used g c = ap (λ (n : ℕ). c.args.self.now.used + n) c.count_parts-need.ensures
