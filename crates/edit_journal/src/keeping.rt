@@ -121,6 +121,7 @@ impl Journal {
         // The other journal goes on to go back from this one, and has the records that it had, but for some first ones, and the new one.
         ensures back { GoesBack kept.new self.new }
         ensures later { kept.old.edits ≤ kept.new.edits }
+        ensures refused_kept { IfErr result (λ fault. (fault ≡ Device) ⊎ (kept.new ≡ kept.old)) }
         ensures older { (records : List RecordData) → D.honest disk.new → HasOlder records kept.old self.old (D.history disk.old)
             → OnOk result (HasOlder (drop (kept.new.edits - kept.old.edits) records ++ record_of version text.now ∷ []) kept.new self.new
             (D.history disk.new)) }
