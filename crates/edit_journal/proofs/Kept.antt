@@ -8,7 +8,7 @@ use Rattle.sector_disk.specs.Disk.{History, Image, seen}
 use Rattle.edit_journal.specs.declared.journal.Journal.{Journal}
 use Rattle.edit_journal.specs.declared.sizes.TheConstants.{FREED_PART, LAST_RECORD_VERSION}
 use Rattle.edit_journal.specs.Records.{RecordData, IsRecordLength, most_bytes, parts_of, IsPart, number_from}
-use Rattle.edit_journal.specs.Ring.{Ring, RecordStart, sector_at, start_behind, AreRecords, places_of, HoldsRecords}
+use Rattle.edit_journal.specs.Ring.{Ring, RecordStart, sector_at, IsInRing, start_behind, AreRecords, places_of, HoldsRecords}
 use Rattle.edit_journal.specs.Appends.{ring_of, start_of, IsNew, ReadsBeside}
 use Rattle.edit_journal.specs.Recovers.{PartsStand}
 use Rattle.edit_journal.specs.Releases.{MayTake}
@@ -16,7 +16,7 @@ use Rattle.edit_journal.specs.Lists.{HasRecords}
 use Rattle.edit_journal.specs.Kept.{GoesBack, HasOlder, IsFull}
 use Rattle.edit_journal.proofs.Laws.{same_first_record}
 use Rattle.edit_journal.proofs.Heads.{stands_push, places_push, records_push}
-use Rattle.edit_journal.proofs.Places.{places_apart, low_place}
+use Rattle.edit_journal.proofs.Places.{places_apart, in_ring, low_place}
 use Rattle.edit_journal.proofs.ReadAgain.{number_at, moved_records, stands_on, has_on}
 use Rattle.edit_journal.proofs.Recovers.{records_behind, part_of_first}
 use Rattle.edit_journal.proofs.Releases.{one_behind, first_take, places_split, stands_round}
@@ -143,7 +143,7 @@ older_drop records count kept left journal history has edits le has_left =
 -- ---- with one record more
 
 -- a journal goes back to itself
-pub goes_back_none : (journal : Journal) → (journal.place + 0) % journal.places ≡ journal.place → GoesBack journal journal
+goes_back_none : (journal : Journal) → (journal.place + 0) % journal.places ≡ journal.place → GoesBack journal journal
 goes_back_none journal place =
     let none : journal.used - journal.used ≡ 0 = omega arith in
     record {
@@ -153,6 +153,17 @@ goes_back_none journal place =
       edits = omega arith;
       place = sym (ap (λ (n : ℕ). (journal.place + n) % journal.places) none ∙ place);
     }
+
+pub goes_back_self : (journal : Journal) → GoesBack journal journal
+goes_back_self journal =
+    goes_back_none journal (sym (low_place journal.places (journal.place + 0) journal.place (omega (arith, journal.begins)) (omega arith)))
+
+-- where a read gives of the ring what it gave, a journal has the same records
+pub has_in_ring : (records : List RecordData) (journal : Journal) (before after : History)
+    → ((at : ℕ) → IsInRing (ring_of journal) at → seen after at ≡ seen before at) → HasRecords records journal before → HasRecords records journal after
+has_in_ring records journal before after reads has = has_on records journal journal before after refl refl refl refl refl
+    (λ offset lt. reads (sector_at (ring_of journal) (journal.place + offset))
+    (in_ring (ring_of journal) (journal.place + offset) (omega (arith, journal.begins)))) has
 
 -- the places behind those in use are those behind all
 place_behind : (kept journal : Journal) → GoesBack kept journal → (part : ℕ)
@@ -279,14 +290,12 @@ older_push records r kept more journal new before after back has fits room next 
     let edits_too : suc new.edits ≡ suc journal.edits = ap (λ (s : RecordStart). s.number) same_too.1 in
     let places : kept.places ≡ journal.places = ap (λ (g : Ring). g.places) back.ring in
     let count : journal.edits - kept.edits ≡ new.edits - more.edits = omega (arith, edits, edits_too) in
-    let here : (journal.place + 0) % journal.places ≡ journal.place =
-    sym (low_place journal.places (journal.place + 0) journal.place (omega (arith, journal.begins)) (omega arith)) in
     record {
       all = has_push records r kept more journal before after back has.all fits room next same used last beside stands;
       in_use = subst (λ (rs : List RecordData). HasRecords rs new after)
           (sym (drop-append-le (journal.edits - kept.edits) records (r ∷ []) (omega (arith, has.all.counts, journal.counts, back.last)))
           ∙ ap (λ (n : ℕ). drop n (records ++ r ∷ [])) count)
-          (has_push (drop (journal.edits - kept.edits) records) r journal new journal before after (goes_back_none journal here) has.in_use fits
+          (has_push (drop (journal.edits - kept.edits) records) r journal new journal before after (goes_back_self journal) has.in_use fits
           (omega (arith, room, back.used, places)) next same_too used_too last_too beside stands);
     }
 
@@ -296,11 +305,9 @@ pub older_beside : (records : List RecordData) (kept journal : Journal) (parts :
     → ReadsBeside (ring_of journal) journal.place journal.used parts (seen before) (seen after) → HasOlder records kept journal after
 older_beside records kept journal parts before after back has room beside =
     let places : kept.places ≡ journal.places = ap (λ (g : Ring). g.places) back.ring in
-    let here : (journal.place + 0) % journal.places ≡ journal.place =
-    sym (low_place journal.places (journal.place + 0) journal.place (omega (arith, journal.begins)) (omega arith)) in
     record {
       all = has_beside records kept journal parts before after back has.all room beside;
-      in_use = has_beside (drop (journal.edits - kept.edits) records) journal journal parts before after (goes_back_none journal here) has.in_use
+      in_use = has_beside (drop (journal.edits - kept.edits) records) journal journal parts before after (goes_back_self journal) has.in_use
           (omega (arith, room, back.used, places)) beside;
     }
 
