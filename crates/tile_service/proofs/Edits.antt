@@ -5,3 +5,4 @@ pub mod JournalAppend
 pub mod Limits
 pub mod ListedEdits
 pub mod ServiceAfter
+pub mod ShownEdits

@@ -4,6 +4,7 @@ pub mod AreaContents
 pub mod Drafts
 pub mod DuringEdits
 pub mod Installed
+pub mod Released
 pub mod StepLimit
 pub mod StepWrites
 pub mod Steps

@@ -33,7 +33,7 @@ pub record HasSomeFirst {D : Type 0} (sectors : ℕ) (history : History) (start 
   pub acknowledged_then : length (all_edits start (take k happenings)) ≤ i
   pub published : IsPublished (starts start way) happenings k j
   -- each edit that was listed by then is one of them
-  pub listed : HasListed start way happenings k (take i edits)
+  pub listed : HasListed start happenings k (take i edits)
   pub has : HasFirst sectors history start edits i j service
 
 -- A run on a disk was stopped at some moment after the first k of its calls had returned and before the first m had, and this disk is one

@@ -16,6 +16,7 @@ module _ {D : Type 0} where
     touched = s.map.touched;
     kept = s.map.kept;
     journal = s.journal;
+    kept_journal = s.kept_journal;
     generation = s.root.generation;
     snapshot_len = s.root.snapshot_len;
     archive_len = s.root.archive_len;

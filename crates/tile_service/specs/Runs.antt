@@ -18,7 +18,8 @@ use Rattle.tile_service.specs.Machine.{read, list_edits}
 use Rattle.tile_service.specs.Machine.{places_for, Happens, Runs}
 use Rattle.tile_service.specs.Service.{PublicationView, ServiceView, Known, IsUp, state_of, known_after, left_of}
 use Rattle.tile_service.specs.Service.{KeepsDraft, ShowsArchive, KeepsArchive, KeepsArea, ReadsFrom, EventLeaves, TellsDevice, stored_after}
-use Rattle.tile_service.specs.Listing.{ShowsEdits, ListsFrom}
+use Rattle.tile_service.specs.Service.{ShowsEdits, StillShows}
+use Rattle.tile_service.specs.Listing.{ListsFrom}
 use Rattle.tile_service.specs.Stored.{Stored, Holds, with_edit}
 use Rattle.tile_service.specs.Tags.{StillKnows, IsNumbered, KeepsLayers}
 
@@ -28,6 +29,11 @@ use Rattle.tile_service.specs.Tags.{StillKnows, IsNumbered, KeepsLayers}
 abbrev pub edits_by : Happening → List RecordedEdit
 edits_by (edit call e (Ok number)) = e ∷ []
 edits_by happening = []
+
+-- how many places the record of an edit takes that wasn't acknowledged
+abbrev pub waiting_by : Happening → ℕ
+waiting_by (edit call e (Err fault)) = places_for e
+waiting_by happening = 0
 
 -- the acknowledged edits, in their order
 abbrev pub acknowledged : List Happening → List RecordedEdit
@@ -237,7 +243,12 @@ module _ {D : Type 0} (sectors : D → ℕ) (honest : D → Type 0) (history : D
     -- bytes of the archive are those that the disk has there, for a broken service too
     pub archive : (archive : List ℕ) → ShowsArchive (history old.disk) old archive → honest new.disk → ReadsFrom archive happening
     -- edits that are listed are those that the disk has in the journal, for a broken service too
-    pub listed : (edits : List RecordedEdit) → ShowsEdits (history old.disk) old edits → honest new.disk → ListsFrom old.journal.edits edits happening
+    pub listed : (edits : List RecordedEdit) → ShowsEdits (history old.disk) old edits → honest new.disk → ListsFrom old.kept_journal.edits edits happening
+    -- The edits that it shows it goes on to show, but for some first ones, and the one that was made. An installation frees places, and the
+    -- records stay where they are until newer ones take them.
+    pub shows : (edits : List RecordedEdit) → ShowsEdits (history old.disk) old edits → honest new.disk
+        → (happening ≡ step (Ok 0) → (stored : Stored) × IsUp (sectors old.disk) (history old.disk) stored old)
+        → StillShows (history new.disk) old new edits (edits_by happening) (waiting_by happening)
     -- the archive is unchanged until another one is installed
     pub keeps_archive : (happening ≡ step (Ok 0) → ⊥) → KeepsArchive honest history old new
     -- after a fault of the disk it is broken
@@ -281,6 +292,9 @@ module _ {D : Type 0} (sectors : D → ℕ) (honest : D → Type 0) (history : D
     pub cached : new.kept ≡ old.kept
     -- the archive is unchanged
     pub keeps_archive : KeepsArchive honest history old new
+    -- the edits that it shows it goes on to show, but for some first ones, and this one if it is acknowledged
+    pub shows : (edits : List RecordedEdit) → ShowsEdits (history old.disk) old edits → honest new.disk
+        → StillShows (history new.disk) old new edits (edits_by (edit call e outcome)) (waiting_by (edit call e outcome))
     -- and so are the areas of all generations
     pub keeps_areas : (generation : ℕ) → KeepsArea honest history generation old new
     -- a crash during the call leaves what was stored, or that with the edit

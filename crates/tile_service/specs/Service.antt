@@ -1,5 +1,5 @@
 -- A service, apart from its place in memory, and its disk.
-use Rattle.std.specs.Prelude.{◌≡◌, ◌≢◌, ◌⊎◌, ◌<◌, ◌≤◌, ◌+◌, ◌-◌, ◌*◌, ◌^◌, ◌%◌, ℕ, zero, List, [], Bool, false, length, take, slice_range}
+use Rattle.std.specs.Prelude.{◌≡◌, ◌≢◌, ◌⊎◌, ◌<◌, ◌≤◌, ◌+◌, ◌-◌, ◌*◌, ◌^◌, ◌%◌, ℕ, zero, List, [], ◌++◌, Bool, false, length, map, take, drop, All, slice_range}
 use Rattle.std.specs.Prelude.{Option, Some, None, IfSome, option_map, Result, Ok, Err, MatchResult, Vec}
 use Rattle.std.proofs.Common.{Global}
 use Rattle.std.specs.declared.rc.RcSlice.{RcSlice}
@@ -11,6 +11,7 @@ use Rattle.sector_bytes.specs.Source.{AreItsBytes}
 use Rattle.generations.specs.Areas.{area_sectors, area_start, sectors_of}
 use Rattle.generations.specs.Sectors.{IsVersion}
 use Rattle.generations.specs.declared.root.Root.{Root}
+use Rattle.edit_journal.specs.Kept.{GoesBack, HasOlder, IsFull}
 use Rattle.edit_journal.specs.Appends.{ring_of}
 use Rattle.edit_journal.specs.Releases.{IsCounted, IsBehind}
 use Rattle.edit_journal.specs.Ring.{sector_at, places_of}
@@ -23,6 +24,7 @@ use Rattle.cached_map.specs.Cached.{CachedView, AreReadRight, shared_bytes}
 use Rattle.area_content.specs.Content.{ContentView, sectors_taken}
 use Rattle.area_content.specs.Drafts.{DraftView}
 use Rattle.area_content.specs.declared.draft.Stage.TheVariants as stages
+use Rattle.edit_text.specs.Recorded.{RecordedEdit}
 use Rattle.feature_model.specs.declared.limits.TheConstants.{NUMBER_END}
 use Rattle.feature_store.specs.Moments.{MomentView, IsMomentOf, moment_map}
 use Rattle.feature_store.specs.Store.{FeatureMap, greatest_id, snapshot}
@@ -48,7 +50,7 @@ use Rattle.tile_service.specs.Machine.{ArchiveState, Publication, ServiceState, 
 use Rattle.tile_service.specs.Machine.{IsPublishable}
 use Rattle.tile_service.specs.Metadata.{IsMetadataStage}
 use Rattle.tile_service.specs.Publishing.{map_at, published, IsInArea, IsUnderWay, HasNoContent}
-use Rattle.tile_service.specs.Stored.{Stored, Holds, Keeps, map_of, last_of, stored_records, with_edit, journal_ring}
+use Rattle.tile_service.specs.Stored.{Stored, Holds, Keeps, CanRecord, map_of, last_of, record_for, stored_records, with_edit, journal_ring}
 use Rattle.tile_service.specs.Tiles.{WereMaps, archive_place}
 
 -- what contracts see of a publication under way
@@ -79,6 +81,8 @@ pub record ServiceView (D : Type 0) : Type 0 where
   pub kept : CacheView
   -- the records of the edits since the snapshot
   pub journal : Journal
+  -- the same with the records before it that the ring still has
+  pub kept_journal : Journal
   pub generation : ℕ
   -- the length in bytes of the snapshot of that generation, and of the archive after it
   pub snapshot_len : ℕ
@@ -159,8 +163,8 @@ pub record IsGoingDraft (size : ℕ) (root : Root) (journal : Journal) (features
   pub stage : IsStage (area_sectors size) m d.stage
 
 -- the invariants of a service whose disk has this many sectors, and that keeps this of its map's metadata, if any
-pub record IsService (sectors size version : ℕ) (root : Root) (journal : Journal) (map : CachedView) (publication : Option PublicationView)
-    (known : Option MapMetadata) (moment : Option MomentView) (draft : Option Draft) : Type 0 where
+pub record IsService (sectors size version : ℕ) (root : Root) (journal kept_journal : Journal) (map : CachedView)
+    (publication : Option PublicationView) (known : Option MapMetadata) (moment : Option MomentView) (draft : Option Draft) : Type 0 where
   pub within : size ≤ sectors
   pub version_is : IsVersion version
   pub ring : ring_of journal ≡ journal_ring size
@@ -172,6 +176,8 @@ pub record IsService (sectors size version : ℕ) (root : Root) (journal : Journ
   pub counted : IsCounted journal
   -- the last edit of the journal is that of the map
   pub last_is : map.last ≡ journal.last
+  -- the journal that is kept goes back from it
+  pub back : GoesBack kept_journal journal
   pub going : IfSome publication (IsGoing size root journal map.features)
   pub told : IfSome known (IsMetadataStage map.features)
   -- a moment that is still asked for is one of the map, and a draft is of the map of the moment
@@ -258,6 +264,7 @@ status_of service = record {
   last = greatest_id service.features;
   edits = service.journal.last;
   published = service.journal.edits;
+  forgotten = service.kept_journal.edits;
   generation = service.generation;
   archive_len = service.archive_len;
   journal_places = service.journal.places;
@@ -290,6 +297,27 @@ pub record Publishes (n : ℕ) (stored : Stored) (history : History) (p : Public
 abbrev pub archive_of : {D : Type 0} → ServiceView D → ArchivePlace
 archive_of service = archive_place service.size service.generation service.snapshot_len service.archive_len
 
+-- A read gives the records of these edits, and of no other: they are acknowledged edits, in order, up to the last one, and those after the last
+-- published one are among them. Also of a broken service.
+pub record ShowsEdits {D : Type 0} (history : History) (service : ServiceView D) (edits : List RecordedEdit) : Type 0 where
+  pub back : GoesBack service.kept_journal service.journal
+  pub records : HasOlder (map record_for edits) service.kept_journal service.journal history
+  pub are_edits : All (CanRecord service.version) edits
+
+-- The service shows these edits, but for some first ones, and these after them. Some go only where the ring is full without them, with the
+-- places that a record takes which isn't acknowledged.
+pub record StillShows {D : Type 0} (history : History) (old new : ServiceView D) (edits more : List RecordedEdit) (waiting : ℕ) : Type 0 where
+  pub count : ℕ
+  pub within : count ≤ length edits
+  pub forgotten : new.kept_journal.edits ≡ old.kept_journal.edits + count
+  pub shows : ShowsEdits history new (drop count edits ++ more)
+  pub full : (count ≡ 0) ⊎ IsFull new.kept_journal (new.kept_journal.used + waiting)
+
+-- An honest disk gives the records of the same edits as before.
+abbrev pub KeepsEdits : {D : Type 0} (honest : D → Type 0) (history : D → History) (old new : ServiceView D) → Type 0
+KeepsEdits honest history old new = (edits : List RecordedEdit) → ShowsEdits (history old.disk) old edits → honest new.disk
+    → (new.kept_journal.edits ≡ old.kept_journal.edits) × ShowsEdits (history new.disk) new edits
+
 -- The service continues from the stored state: every image that a crash may leave now holds it, and the service has its map, numbers
 -- and places. The disk has this many sectors and this history.
 pub record IsUp {D : Type 0} (sectors : ℕ) (history : History) (stored : Stored) (service : ServiceView D) : Type 0 where
@@ -312,6 +340,9 @@ pub record IsUp {D : Type 0} (sectors : ℕ) (history : History) (stored : Store
   -- the look-up that it caches is of this archive, and tiles that it read and cached are tiles of its map
   pub archived : ArePublished service.published (archive_of service) stored.archive
   pub reads : AreReadRight service.features service.touched service.journal.last service.kept
+  -- the ring still has the records of some last edits before those since
+  pub older : List RecordedEdit
+  pub shows : ShowsEdits history service (older ++ stored.since)
 
 -- the archive that an image has for a service: archive_len bytes of the sectors after the snapshot
 abbrev pub shown_archive : {D : Type 0} → Image → ServiceView D → List ℕ

@@ -3,7 +3,7 @@ ghost use Rattle.std.specs.Prelude.{◌≡◌, ◌≢◌, IfErr, OnOk};
 ghost use Rattle.sector_disk.specs.Asked.{MayWrite};
 ghost use Rattle.sector_disk.specs.Moments.{LeavesOnly};
 ghost use Rattle.tile_service.specs.Machine.{AnswersCheck};
-ghost use Rattle.tile_service.specs.Service.{IsUp, Known, KeepsArchive, SyncsDisk, TellsDevice, state_of};
+ghost use Rattle.tile_service.specs.Service.{IsUp, Known, KeepsArchive, KeepsEdits, SyncsDisk, TellsDevice, state_of};
 ghost use Rattle.tile_service.specs.Stored.{Stored, Holds};
 ghost use Rattle.tile_service.specs.declared.fault.ServiceFault.TheVariants.{Device};
 
@@ -30,6 +30,9 @@ impl<D: Sectors + Drop> Service<D> {
 
         // The archive that it serves is unchanged, after `Device` too.
         ensures archive { KeepsArchive D.honest D.history self.old self.new }
+
+        // It shows the edits that it showed.
+        ensures edits { KeepsEdits D.honest D.history self.old self.new }
 
         // A crash during the call leaves what was stored, and after it the service continues from that.
         ensures any_moment { (stored : Stored) → D.honest self.new.disk → IsUp (D.sectors self.old.disk) (D.history self.old.disk) stored self.old

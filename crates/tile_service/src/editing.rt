@@ -194,7 +194,12 @@ impl<D: Sectors + Drop> Service<D> {
             Ok((changes, text)) => (changes, text),
             Err(AllocError) => return Err(ServiceFault::Memory),
         };
-        match self.journal.append(&mut self.disk, self.version, &text) {
+        match self.journal.append_to_both(
+            &mut self.kept_journal,
+            &mut self.disk,
+            self.version,
+            &text,
+        ) {
             Ok(number) => {
                 self.map.make_edit(changes, number, &mut self.moment);
                 self.metadata = None;
@@ -284,7 +289,10 @@ impl<D: Sectors + Drop> Service<D> {
         }
         let text = delete_edit_text(id);
         let text = deletion_text(self.version, &text);
-        match self.journal.append(&mut self.disk, self.version, text) {
+        match self
+            .journal
+            .append_to_both(&mut self.kept_journal, &mut self.disk, self.version, text)
+        {
             Ok(last) => {
                 self.map.remove(id, last, &mut self.moment);
                 self.metadata = None;

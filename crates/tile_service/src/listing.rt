@@ -1,15 +1,15 @@
-//! The edits since the last publication, as the journal has them.
-ghost use Rattle.std.specs.Prelude.{◌≡◌, ◌≤◌, ◌<◌, ◌+◌, ℕ, List, length, take, true, IfOk};
+//! The last edits, as the journal's ring has them.
+ghost use Rattle.std.specs.Prelude.{◌≡◌, ◌≤◌, ◌<◌, ◌+◌, ◌++◌, ℕ, List, [], length, take, true, IfOk};
 ghost use Rattle.sector_disk.specs.Asked.{OnlyReads};
 ghost use Rattle.sector_disk.specs.Disk.{Image, moment, LeftSince};
 ghost use Rattle.edit_journal.specs.Records.{RecordData};
 ghost use Rattle.edit_journal.specs.Recovers.{TellsRecoverFault};
 ghost use Rattle.edit_text.specs.Recorded.{RecordedEdit};
 ghost use Rattle.tile_service.specs.KeptEdits.{AreNumbered, IsListed, KeepsListed};
-ghost use Rattle.tile_service.specs.Listing.{ShowsEdits, AreListed, listed_from, listed_records};
+ghost use Rattle.tile_service.specs.Listing.{AreListed, listed_from, listed_records};
 ghost use Rattle.tile_service.specs.Machine.{Happening, list_edits};
-ghost use Rattle.tile_service.specs.Runs.{Takes, TakesStates, all_edits, way_of};
-ghost use Rattle.tile_service.specs.Service.{ServiceView, IsUp};
+ghost use Rattle.tile_service.specs.Runs.{Takes, TakesStates, all_edits, way_of, waiting_by};
+ghost use Rattle.tile_service.specs.Service.{ServiceView, ShowsEdits, StillShows, IsUp};
 ghost use Rattle.tile_service.specs.Stored.{Stored};
 
 use crate::service::Service;
@@ -18,22 +18,23 @@ use sector_disk::Sectors;
 
 impl<D: Sectors + Drop> Service<D> {
     /// The records of the edits from a number on, in order: as many as have `bytes` bytes of text or more together, or up to the last
-    /// edit. The number is that of an edit after the last published one, or of the next edit. A broken service lists the edits that were
+    /// edit. The number is that of an edit after the forgotten ones, or of the next edit. A broken service lists the edits that were
     /// acknowledged too, as long as its disk gives them. It writes nothing, and the service continues as before after an error.
     ///
     /// # Errors
     ///
     /// `Device` and `Memory`; `Damaged`, if the disk gives another record than was written.
     pub fn edits_from(&mut self, number: u64, bytes: usize) -> Result<Vec<Record>, JournalFault>
-        requires number { (self.old.journal.edits < number) × (number ≤ self.old.journal.last + 1) }
+        requires number { (self.old.kept_journal.edits < number) × (number ≤ self.old.journal.last + 1) }
         // The edits are those that the disk has in the journal, for a broken service too: it is what happens, whatever a crash leaves.
         ensures takes { Takes D.sectors D.honest D.history self.old (list_edits number bytes (listed_records result)) self.new }
-        // They are the first ones from that number on of those that are stored: every image that a crash now leaves has them.
+        // Behind the last published one they are the first ones from that number on of those that are stored: every image that a crash now
+        // leaves has them.
         ensures read { (stored : Stored) → IsUp (D.sectors self.old.disk) (D.history self.old.disk) stored self.old → D.honest self.new.disk
-            → AreListed (listed_from stored.edits stored.since number bytes) (listed_records result) }
-        // A service that continues from what is stored shows the edits since its snapshot.
+            → stored.edits < number → AreListed (listed_from stored.edits stored.since number bytes) (listed_records result) }
+        // A service that continues from what is stored shows the edits since its snapshot, and maybe some before those.
         ensures shows { (stored : Stored) → IsUp (D.sectors self.old.disk) (D.history self.old.disk) stored self.old
-            → ShowsEdits (D.history self.old.disk) self.old stored.since }
+            → (older : List RecordedEdit) × ShowsEdits (D.history self.old.disk) self.old (older ++ stored.since) }
         // They have numbers up to the last edit's.
         ensures counted { IfOk result (λ found. number + length found.items ≤ self.old.journal.last + 1) }
         ensures same { self.new ≡ record self.old { disk = self.new.disk } }
@@ -42,16 +43,17 @@ impl<D: Sectors + Drop> Service<D> {
         ensures up { (stored : Stored) → IsUp (D.sectors self.old.disk) (D.history self.old.disk) stored self.old → D.honest self.new.disk
             → IsUp (D.sectors self.new.disk) (D.history self.new.disk) stored self.new }
     {
-        self.journal
+        self.kept_journal
             .records_from(self.alloc, &mut self.disk, number, self.version, bytes)
     }
 }
 
-/// A service that breaks, or is broken, still shows the edits that it showed: those that were acknowledged, and not the one in doubt. So
-/// what it lists are they, as long as its disk is honest.
+/// A service that breaks, or is broken, still shows the edits that it showed, but for some first ones if the ring is full: those that were
+/// acknowledged, and not the one in doubt. So what it lists are they, as long as its disk is honest.
 pub fn broken_still_shows_its_edits<D: Sectors>()
     ensures { (old new : ServiceView D) (happening : Happening) (edits : List RecordedEdit) → Takes D.sectors D.honest D.history old happening new
-        → new.broken ≡ true → ShowsEdits (D.history old.disk) old edits → D.honest new.disk → ShowsEdits (D.history new.disk) new edits }
+        → new.broken ≡ true → ShowsEdits (D.history old.disk) old edits → D.honest new.disk
+        → StillShows (D.history new.disk) old new edits [] (waiting_by happening) }
 {}
 
 /// What was listed stays: each edit that a list had was acknowledged before, and every image that a crash leaves from the list on has it, under its number.
@@ -60,7 +62,7 @@ pub fn listed_edits_are_kept<D: Sectors>()
     ensures acknowledged { (start : Stored) (old new : ServiceView D) (happenings : List Happening)
         → TakesStates D.sectors D.honest D.history old happenings new → D.honest new.disk → IsUp (D.sectors old.disk) (D.history old.disk) start old
         → (index number : ℕ) (records : List RecordData) → index < length happenings
-        → IsListed start (way_of start.edits old.publication) happenings index number records
+        → IsListed start happenings index number records
         → AreNumbered start number records (all_edits start (take index happenings)) }
     ensures kept { (start : Stored) (old new : ServiceView D) (happenings : List Happening)
         (run : TakesStates D.sectors D.honest D.history old happenings new) → D.honest new.disk → IsUp (D.sectors old.disk) (D.history old.disk) start old

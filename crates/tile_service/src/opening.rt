@@ -240,6 +240,7 @@ impl<D: Sectors + Drop> Service<D> {
                 layout: found.layout,
                 version: found.version,
                 journal: found.journal,
+                kept_journal: found.journal,
                 map: found.map,
                 metadata: None,
                 root: found.root,

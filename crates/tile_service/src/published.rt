@@ -26,6 +26,13 @@ impl<D: Sectors + Drop> Service<D> {
         self.journal.edits
     }
 
+    /// The number of the last edit that isn't listed any more, 0 if none.
+    pub fn forgotten(&self) -> u64
+        ensures { result ≡ self.now.kept_journal.edits }
+    {
+        self.kept_journal.edits
+    }
+
     /// The number of the last edit, 0 if none.
     pub fn last(&self) -> u64
         ensures { result ≡ self.now.journal.last }

@@ -8,7 +8,7 @@ ghost use Rattle.feature_store.specs.Store.{IsMap, snapshot};
 ghost use Rattle.area_content.specs.Content.{sectors_taken};
 ghost use Rattle.tile_service.specs.Publishing.{HasFirst, HasNoContent, IsBeside, told_content};
 ghost use Rattle.tile_service.specs.Machine.{begin, step, IsPublishable, AnswersBegin, AnswersStep, AnswersCancel, after_install};
-ghost use Rattle.tile_service.specs.Service.{IsGoing, with_publication, going_of, known_installed, installed, KeepsDraft, KeepsArchive, KeepsArea};
+ghost use Rattle.tile_service.specs.Service.{IsGoing, with_publication, going_of, known_installed, installed, KeepsDraft, KeepsArchive, KeepsEdits, KeepsArea};
 ghost use Rattle.tile_service.specs.Service.{Known, IsUp, state_of, known_after, EventLeaves, stored_after, TellsDevice};
 ghost use Rattle.tile_service.specs.Stored.{Stored, Holds, Keeps};
 ghost use Rattle.tile_service.specs.declared.fault.ServiceFault.TheVariants.{Device};
@@ -152,6 +152,9 @@ impl<D: Sectors + Drop> Service<D> {
         ensures disk { MayWrite D.sectors D.honest self.old.disk self.new.disk }
         ensures failed { TellsFailure result (D.faults self.old.disk) (D.faults self.new.disk) }
         ensures archive { OnErr result (KeepsArchive D.honest D.history self.old self.new) }
+        ensures edits { (OnOk result ((stored : Stored)
+            × IsUp (D.sectors self.old.disk) (D.history self.old.disk) stored (with_publication self.old publication)))
+            → KeepsEdits D.honest D.history self.old self.new }
         ensures area { (generation : ℕ) → KeepsArea D.honest D.history generation self.old self.new }
         ensures steps { D.honest self.new.disk → moment (D.history self.new.disk) ≤ moment (D.history self.old.disk) + 3 }
         ensures any_moment { (stored : Stored) → D.honest self.new.disk
@@ -201,6 +204,9 @@ impl<D: Sectors + Drop> Service<D> {
         ensures disk { MayWrite D.sectors D.honest self.old.disk self.new.disk }
         ensures failed { TellsFailure result (D.faults self.old.disk) (D.faults self.new.disk) }
         ensures archive { (result ≡ Ok 0 → ⊥) → KeepsArchive D.honest D.history self.old self.new }
+        ensures edits { (result ≡ Ok 0 → (stored : Stored)
+            × IsUp (D.sectors self.old.disk) (D.history self.old.disk) stored (with_publication self.old publication))
+            → KeepsEdits D.honest D.history self.old self.new }
         ensures area { KeepsArea D.honest D.history self.old.generation self.old self.new }
         ensures steps { D.honest self.new.disk → moment (D.history self.new.disk) ≤ moment (D.history self.old.disk) + 67 }
         ensures any_moment { (stored : Stored) → D.honest self.new.disk
@@ -309,6 +315,10 @@ impl<D: Sectors + Drop> Service<D> {
 
         // Unless it returns 0, the archive that it serves is unchanged, after `Device` too.
         ensures archive { (result ≡ Ok 0 → ⊥) → KeepsArchive D.honest D.history self.old self.new }
+
+        // Whatever it returns, it shows the edits that it showed: an installation frees the places of published ones, and they stay there.
+        ensures edits { (result ≡ Ok 0 → (stored : Stored) × IsUp (D.sectors self.old.disk) (D.history self.old.disk) stored self.old)
+            → KeepsEdits D.honest D.history self.old self.new }
 
         // Whatever it returns, the area of the generation from before it is unchanged: once another is installed, the archive from before
         // can be read until the next step.

@@ -24,6 +24,8 @@ pub struct Service<D: Sectors + Drop> {
     pub(crate) layout: Layout,
     pub(crate) version: u32,
     pub(crate) journal: Journal,
+    /// The journal with the records before it that its ring still has: published ones, which newer records overwrite.
+    pub(crate) kept_journal: Journal,
     pub(crate) map: CachedMap,
     /// The metadata of the map, or what is read for it, if somebody has asked for it since the last edit.
     pub(crate) metadata: Option<MapMetadata>,
@@ -48,7 +50,7 @@ impl<D: Sectors + Drop> Model for Service<D> {
 
     ghost view = { service_view };
 
-    ghost invariant = { λ s. IsService (D.sectors s.disk) s.layout.sectors s.version s.root s.journal s.map s.publication s.metadata s.moment s.draft };
+    ghost invariant = { λ s. IsService (D.sectors s.disk) s.layout.sectors s.version s.root s.journal s.kept_journal s.map s.publication s.metadata s.moment s.draft };
 }
 
 impl<D: Sectors + Drop> Service<D> {
@@ -77,6 +79,7 @@ impl<D: Sectors + Drop> Service<D> {
             layout: _,
             version: _,
             journal: _,
+            kept_journal: _,
             map: _,
             metadata: _,
             root: _,

@@ -24,6 +24,8 @@ pub struct Status {
     pub edits: u64,
     /// The number of the last edit in the archive that was installed last, or 0.
     pub published: u64,
+    /// The number of the last edit that isn't listed any more, or 0.
+    pub forgotten: u64,
     /// How often an archive was installed.
     pub generation: u64,
     /// The length in bytes of the archive that was installed last, or 0.
@@ -94,6 +96,7 @@ impl<D: Sectors + Drop> Service<D> {
             last: self.map.store().greatest(),
             edits: self.journal.last,
             published: self.journal.edits,
+            forgotten: self.kept_journal.edits,
             generation: self.root.generation,
             archive_len: self.root.archive_len,
             journal_places: self.journal.places,

@@ -1,6 +1,6 @@
 -- The archive of a service, as its disk is read.
 use Rattle.std.specs.Prelude.{Option, IfSome}
-use Rattle.std.proofs.Common.{◌≡◌, inl, inr, ℕ, ◌≤◌, ◌+◌, ◌-◌, List, [], length, take, slice_range, refl, sym, ap, ◌∙◌, subst, arith}
+use Rattle.std.proofs.Common.{◌≡◌, inl, inr, ℕ, ◌≤◌, ◌+◌, ◌-◌, List, [], ◌++◌, length, take, slice_range, refl, sym, ap, ◌∙◌, subst, arith}
 use Rattle.std.proofs.lemmas.List.{take_all}
 use Rattle.sector_disk.specs.Disk.{History, seen}
 use Rattle.sector_disk.proofs.Laws.{seen_is_left}
@@ -8,6 +8,8 @@ use Rattle.sector_bytes.specs.Bytes.{bytes_from, StandsIn}
 use Rattle.sector_bytes.proofs.Laws.{stands_read}
 use Rattle.generations.specs.Areas.{area_start, sectors_of}
 use Rattle.sector_bytes.specs.Source.{AreItsBytes}
+use Rattle.edit_journal.specs.Appends.{ring_of}
+use Rattle.edit_journal.specs.Ring.{IsInRing}
 use Rattle.area_content.specs.Tiles.{IsArchiveOfMap}
 use Rattle.cached_map.specs.Cached.{WasMap, AreReadRight}
 use Rattle.feature_store.specs.Layers.{layers}
@@ -17,6 +19,7 @@ use Rattle.tile_cache.specs.Kept.{CacheView}
 use Rattle.tile_service.specs.Service.{PublicationView, ServiceView, Publishes, IsUp, archive_of, shown_archive, ShowsArchive}
 use Rattle.tile_service.specs.Stored.{Stored, IsMapArchive, Keeps}
 use Rattle.tile_service.proofs.Disk.SectorBytes.{each_stands}
+use Rattle.tile_service.proofs.Edits.ShownEdits.{shows_on}
 
 -- What is read in the archive's place is of the archive that is stored there.
 pub shown_is_read : (history : History) (place len : ℕ) (archive : List ℕ) → AreItsBytes place len archive (seen history)
@@ -55,8 +58,9 @@ module _ {D : Type 0} (count : ℕ) (history : History) (stored : Stored) (servi
   pub up_moved : (disk : D) (publication : Option PublicationView) (lookup : PublishedView) (kept : CacheView) (sectors : ℕ) (later : History)
       → Keeps sectors service.size stored later → IfSome publication (Publishes service.size stored later)
       → ArePublished lookup (archive_of service) stored.archive → AreReadRight service.features service.touched service.journal.last kept
+      → ((at : ℕ) → IsInRing (ring_of service.journal) at → seen later at ≡ seen history at)
       → IsUp sectors later stored (record service { disk = disk; publication = publication; published = lookup; kept = kept })
-  up_moved disk publication lookup kept sectors later keeps publishes archived reads = record {
+  up_moved disk publication lookup kept sectors later keeps publishes archived reads same = record {
     keeps = keeps;
     unbroken = up.unbroken;
     version_is = up.version_is;
@@ -74,6 +78,9 @@ module _ {D : Type 0} (count : ℕ) (history : History) (stored : Stored) (servi
     were = up.were;
     archived = archived;
     reads = reads;
+    older = up.older;
+    shows = shows_on service (record service { disk = disk; publication = publication; published = lookup; kept = kept }) history later
+        (up.older ++ stored.since) refl refl refl same up.shows;
   }
 
   -- So it does if nothing was written.
@@ -84,6 +91,7 @@ module _ {D : Type 0} (count : ℕ) (history : History) (stored : Stored) (servi
       (subst (λ (c : ℕ). Keeps c service.size stored later) (sym same_count)
       (subst (λ (h : History). Keeps count service.size stored h) (sym same_history) up.keeps))
       (subst (λ (h : History). IfSome service.publication (Publishes service.size stored h)) (sym same_history) up.publication) archived reads
+      (λ at inside. ap (λ (h : History). seen h at) same_history)
 
   pub up_unwritten : (disk : D) (sectors : ℕ) (later : History) → sectors ≡ count → later ≡ history
       → IsUp sectors later stored (record service { disk = disk })

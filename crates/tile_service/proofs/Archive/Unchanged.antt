@@ -9,7 +9,7 @@ use Rattle.sector_bytes.specs.Bytes.{sector_piece}
 use Rattle.sector_bytes.specs.Source.{AreItsBytes}
 use Rattle.generations.specs.Areas.{journal_sectors, area_sectors, area_start, sectors_of}
 use Rattle.edit_journal.specs.Appends.{ring_of, start_of, IsFree, ReadsAsBefore}
-use Rattle.edit_journal.specs.Ring.{Ring, RecordStart, sector_at}
+use Rattle.edit_journal.specs.Ring.{Ring, RecordStart, sector_at, IsInRing}
 use Rattle.edit_journal.specs.declared.journal.Journal.{Journal}
 use Rattle.generations.specs.declared.sizes.TheConstants.{JOURNAL_START}
 use Rattle.published_tiles.specs.declared.place.ArchivePlace.{ArchivePlace}
@@ -126,6 +126,21 @@ low_in_use n journal ring offset lt =
     let first : journal.first ≡ JOURNAL_START = ap (λ (r : Ring). r.first) ring in
     let places : journal.places ≡ journal_sectors n = ap (λ (r : Ring). r.places) ring in
     (omega (arith, first), omega (arith, first, places, mod_below (journal.place + offset) journal.places (omega (arith, lt, journal.room))))
+
+-- The ring is read as before after writes into an area
+pub ring_beside : (n next : ℕ) (ring : Ring) (old new : Image) → ring ≡ journal_ring n → IsBeside n next old new → (at : ℕ) → IsInRing ring at
+    → new at ≡ old at
+ring_beside n next ring old new is beside at inside =
+    let first : ring.first ≡ JOURNAL_START = ap (λ (r : Ring). r.first) is in
+    let places : ring.places ≡ journal_sectors n = ap (λ (r : Ring). r.places) is in
+    beside at (λ area. omega (arith, first, places, inside.1, area.0))
+
+-- and after the write of a root.
+pub ring_root : (n root : ℕ) (ring : Ring) (old new : Image) → ring ≡ journal_ring n → root < 3 → ((at : ℕ) → (at ≡ root → ⊥) → new at ≡ old at)
+    → (at : ℕ) → IsInRing ring at → new at ≡ old at
+ring_root n root ring old new is low others at inside =
+    let first : ring.first ≡ JOURNAL_START = ap (λ (r : Ring). r.first) is in
+    others at (λ same. omega (arith, first, same, low, inside.0))
 
 -- ---- of a service
 

@@ -1,6 +1,6 @@
 -- What is read as a disk is opened, and what a disk that holds a state opens to.
 use Rattle.std.specs.Prelude.{Option, None, IfSome}
-use Rattle.std.proofs.Common.{◌≡◌, ◌⊎◌, inl, inr, ℕ, Bool, true, false, ◌<◌, ◌≤◌, ◌+◌, ◌*◌, List, [], ◌∷◌, length, map}
+use Rattle.std.proofs.Common.{◌≡◌, ◌⊎◌, inl, inr, ℕ, Bool, true, false, ◌<◌, ◌≤◌, ◌+◌, ◌-◌, ◌*◌, suc, List, [], ◌∷◌, length, map, drop}
 use Rattle.std.proofs.Common.{Result, Ok, Err, IfErr, refl, sym, ◌∙◌, ap, subst, arith}
 use Rattle.std.specs.List.{All}
 use Rattle.std.proofs.lemmas.Bool.{false≢true}
@@ -10,6 +10,7 @@ use Rattle.sector_disk.specs.Asked.{OnlyReads}
 use Rattle.sector_disk.specs.Disk.{History, Image, seen, MayLeave}
 use Rattle.sector_disk.specs.Disk.History.{synced}
 use Rattle.sector_disk.specs.declared.disk.TheConstants.{SECTOR_BYTES}
+use Rattle.sector_disk.proofs.Laws.{seen_is_left}
 use Rattle.sector_bytes.specs.Bytes.{StandsIn}
 use Rattle.generations.specs.Areas.{IsSize, journal_sectors, area_sectors, area_start}
 use Rattle.generations.specs.Disks.{LiveRoot, IsFaultOf}
@@ -21,13 +22,18 @@ use Rattle.generations.specs.declared.fault.What.TheVariants.{Size, RootSector, 
 use Rattle.generations.specs.declared.root.Root.{Root}
 use Rattle.generations.proofs.Laws.{one_live, live_no_fault}
 use Rattle.edit_journal.specs.Appends.{ring_of, start_of}
+use Rattle.edit_journal.specs.Kept.{GoesBack}
+use Rattle.edit_journal.specs.Lists.{HasRecords}
 use Rattle.edit_journal.specs.Records.{RecordData, AreUpTo, parts_of}
 use Rattle.edit_journal.specs.Recovers.{IsRecoverFault}
 use Rattle.edit_journal.specs.Ring.{places_of}
 use Rattle.edit_journal.specs.declared.fault.JournalFault.{JournalFault}
 use Rattle.edit_journal.specs.declared.fault.JournalFault.TheVariants as faults
 use Rattle.edit_journal.specs.declared.journal.Journal as journals
+use Rattle.edit_journal.specs.declared.journal.Journal.{Journal as JournalData}
 use Rattle.edit_journal.specs.declared.sizes.TheConstants.{PART_BYTES}
+use Rattle.edit_journal.proofs.Kept.{goes_back_self}
+use Rattle.edit_journal.proofs.ReadAgain.{moved_records}
 use Rattle.edit_journal.proofs.Recovers.{held_is_journal, one_journal}
 use Rattle.cached_map.specs.Cached.{AreReadRight}
 use Rattle.edit_text.specs.Recorded.{RecordedEdit}
@@ -42,8 +48,8 @@ use Rattle.published_tiles.specs.declared.place.ArchivePlace.{ArchivePlace}
 use Rattle.tile_service.specs.Opening.{IsJournalOf, HasSnapshot, IsReplayed, IsRead, IsContentFault, IsOpenFault, HasNoOpenFault}
 use Rattle.tile_service.specs.Opening.{recovery_told_as}
 use Rattle.tile_service.specs.Replayed.{AreRecordsFor, IsReplayFault, bytes_of}
-use Rattle.tile_service.specs.Service.{PublicationView, ServiceView, Publishes, IsUp, archive_of}
-use Rattle.tile_service.specs.Stored.{Stored, Holds, Keeps, CanRecord, root_of, record_for, stored_records, map_of, journal_start, journal_ring}
+use Rattle.tile_service.specs.Service.{PublicationView, ServiceView, Publishes, ShowsEdits, IsUp, archive_of}
+use Rattle.tile_service.specs.Stored.{Stored, Holds, Keeps, CanRecord, last_of, root_of, record_for, stored_records, map_of, journal_start, journal_ring}
 use Rattle.tile_service.specs.Tiles.{WereMaps}
 use Rattle.tile_service.proofs.Disk.SectorBytes.{one_stands, each_stands}
 use Rattle.tile_service.proofs.Disk.OneState.{one_run, all_recorded, version_known, version_most}
@@ -271,7 +277,7 @@ module _ (sectors n : ℕ) (stored : Stored) (image : Image) (holds : Holds sect
       (same_image : seen old ≡ image) (same_count : count ≡ sectors) (after_sync : history ≡ synced old)
       (unbroken : service.broken ≡ false) (generation : service.generation ≡ root.generation)
       (snapshot_len : service.snapshot_len ≡ root.snapshot_len) (archive_len : service.archive_len ≡ root.archive_len)
-      (publication : service.publication ≡ None) (undrafted : service.drafting ≡ None) (ring : ring_of service.journal ≡ journal_ring service.size)
+      (publication : service.publication ≡ None) (undrafted : service.drafting ≡ None) (kept : service.kept_journal ≡ service.journal) (ring : ring_of service.journal ≡ journal_ring service.size)
       (is : IsRead sectors service.size service.version image root service.journal service.features service.touched)
       (nothing : (place : ArchivePlace) (bytes : List ℕ) → ArePublished service.published place bytes)
       (reads : AreReadRight service.features service.touched service.journal.last service.kept) where
@@ -314,6 +320,34 @@ module _ (sectors n : ℕ) (stored : Stored) (image : Image) (holds : Holds sect
         (subst (λ (m : FeatureMap). WereMaps service.features service.touched service.journal.last stored.edits m replayed.edits) same_snapshot
         replayed.were)
 
+    used_is : service.journal.used ≡ places_of (stored_records stored)
+    used_is = replayed.used_is ∙ ap places_of records_are
+
+    last_is : service.journal.last ≡ last_of stored
+    last_is = omega (arith, replayed.last_is, ap length records_are, length-map stored.since record_for)
+
+    -- its journal has the edits since, and no others
+    has_stored : HasRecords (stored_records stored) service.journal history
+    has_stored = record {
+      reads = moved_records (journal_ring service.size) (ring_of service.journal) (journal_start stored)
+          (start_of service.journal.place service.journal.edits) (stored_records stored) (seen history) ring
+          (λ i. record { place = replayed.place_is i; number = suc (replayed.edits_are i) })
+          (keeps (seen history) (seen_is_left history)).journal.records;
+      uses = used_is;
+      counts = omega (arith, last_is, replayed.edits_are, length-map stored.since record_for);
+    }
+
+    shows_opened : ShowsEdits history service stored.since
+    shows_opened = record {
+      back = subst (λ (j : JournalData). GoesBack j service.journal) (sym kept) (goes_back_self service.journal);
+      records = record {
+        all = subst (λ (j : JournalData). HasRecords (stored_records stored) j history) (sym kept) has_stored;
+        in_use = subst (λ (n : ℕ). HasRecords (drop n (stored_records stored)) service.journal history)
+            (let none : 0 ≡ service.journal.edits - service.kept_journal.edits = omega (arith, ap (λ (j : JournalData). j.edits) kept) in none) has_stored;
+      };
+      are_edits = subst (λ (v : ℕ). All (CanRecord v) stored.since) (sym same_version) (keeps (seen history) (seen_is_left history)).are_edits;
+    }
+
     -- what is read of it is its map and its journal
     pub opens : (service.size ≡ n) × IsUp count history stored service
     opens = (
@@ -328,14 +362,16 @@ module _ (sectors n : ℕ) (stored : Stored) (image : Image) (holds : Holds sect
         map_is = map_is;
         place_is = replayed.place_is;
         edits_are = replayed.edits_are;
-        used_is = replayed.used_is ∙ ap places_of records_are;
+        used_is = used_is;
         ring_is = ring;
-        last_is = omega (arith, replayed.last_is, ap length records_are, length-map stored.since record_for);
+        last_is = last_is;
         publication = subst (λ (o : Option PublicationView). IfSome o (Publishes service.size stored history)) (sym publication) tt;
         drafting = subst (λ (o : Option DraftedView). IfSome o (IsDrafted service.size stored)) (sym undrafted) tt;
         were = were;
         archived = nothing (archive_of service) stored.archive;
         reads = reads;
+        older = [];
+        shows = shows_opened;
       },
     )
 

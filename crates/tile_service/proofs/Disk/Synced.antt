@@ -55,4 +55,4 @@ module _ (old new : History) (syncs : (new ≡ old) ⊎ (new ≡ synced old)) wh
     up_synced disk count same = subst (λ (k : ℕ). IsUp k new stored (record service { disk = disk })) (sym same)
         (up_moved sectors old stored service up disk service.publication service.published service.kept sectors new
         (sync_keeps old new syncs sectors service.size stored up.keeps) (publishes_on service.size stored service.publication up.publication)
-        up.archived up.reads)
+        up.archived up.reads (λ at inside. sync_seen at))

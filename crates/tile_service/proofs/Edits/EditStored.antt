@@ -1,7 +1,7 @@
 -- What an edit leaves of what a disk holds, and the service that it leaves.
 use Rattle.std.specs.Prelude.{Option, None, Some, IfSome, Result, Err}
-use Rattle.std.proofs.Common.{◌≡◌, ◌≢◌, ◌⊎◌, ◌+◌, ◌%◌, inl, inr, ⊎_elim, ℕ, suc, List, [], ◌∷◌, ◌++◌, refl, sym, ◌∙◌, ap, subst, arith, length-append}
-use Rattle.std.proofs.lemmas.List.{length-map}
+use Rattle.std.proofs.Common.{◌≡◌, ◌≢◌, ◌⊎◌, ◌≤◌, ◌+◌, ◌%◌, inl, inr, ⊎_elim, ℕ, suc, List, [], ◌∷◌, ◌++◌, length, drop, append_assoc, refl, sym, ◌∙◌, ap, subst, arith, length-append}
+use Rattle.std.proofs.lemmas.List.{length-map, drop-append-le}
 use Rattle.sector_disk.specs.Disk.{Image, History, seen, moment}
 use Rattle.sector_disk.specs.Moments.{LeavesOnly}
 use Rattle.sector_disk.proofs.History.{started}
@@ -22,14 +22,16 @@ use Rattle.tile_service.specs.Drafted.{DraftedView, count_of, IsDrafted}
 use Rattle.tile_service.specs.After.{made}
 use Rattle.tile_service.specs.Inside.{service_view}
 use Rattle.tile_service.specs.Machine.{Call, edit}
-use Rattle.tile_service.specs.Runs.{TakesEdit}
+use Rattle.tile_service.specs.Runs.{TakesEdit, waiting_by}
 use Rattle.tile_service.specs.Service.{PublicationView, ServiceView, CountsDevice, count_at, Publishes, IsUp, MayStand, EventLeaves, told_as, archive_of}
+use Rattle.tile_service.specs.Service.{ShowsEdits, StillShows}
 use Rattle.tile_service.specs.Stored.{Stored, Holds, Keeps, CanRecord, record_for, with_edit, map_of, stored_records, journal_ring, journal_start}
 use Rattle.tile_service.specs.Tiles.{archive_place}
 use Rattle.tile_service.proofs.Archive.Unchanged.{same_stays}
 use Rattle.tile_service.specs.declared.fault.ServiceFault.{ServiceFault}
 use Rattle.tile_service.specs.declared.fault.ServiceFault.TheVariants.{Device}
 use Rattle.tile_service.specs.declared.service.Service.TheInside.{Inside}
+use Rattle.tile_service.proofs.Edits.ShownEdits.{older_count, still_from}
 use Rattle.tile_service.proofs.Edits.JournalAppend.{append_leaves, append_made, records_with}
 use Rattle.tile_service.proofs.Tiles.EarlierMaps.{were_one}
 use Rattle.tile_service.proofs.Publications.Installed.{map_stays, records_stay, published_stays}
@@ -87,6 +89,7 @@ refuses_edit sectors honest history failures old new call e fault same other =
       touches = refl;
       knows = λ n was known. known;
       cached = refl;
+      shows = λ edits shows is_honest. still_from (history old.disk) old old edits [] (waiting_by (edit call e (Err fault))) refl refl shows;
       keeps_archive = record {
         generation = refl;
         snapshot_len = refl;
@@ -111,14 +114,17 @@ append_counts journal parts old new journals.Damaged told is why = absurd why
 append_counts journal parts old new journals.Memory told is why = absurd why
 
 -- After an append that is refused for another fault than the disk's, the service is as it was.
-pub refused_unchanged : {D : Type 0} (inside : Inside D) (disk : D) (journal : Journal) (map : CachedView) (new : ServiceView D) (fault : JournalFault)
-    (told : ServiceFault) → told ≡ told_as fault → (fault ≡ journals.Device) ⊎ (disk ≡ inside.disk) → journal ≡ inside.journal
-    → map ≡ record inside.map { spare = map.spare }
-    → (fault ≢ journals.Device → new ≡ service_view (record inside { disk = disk; journal = journal; map = map }))
+pub refused_unchanged : {D : Type 0} (inside : Inside D) (disk : D) (journal kept_journal : Journal) (map : CachedView) (new : ServiceView D)
+    (fault : JournalFault) (told : ServiceFault) → told ≡ told_as fault → (fault ≡ journals.Device) ⊎ (disk ≡ inside.disk)
+    → (fault ≡ journals.Device) ⊎ (kept_journal ≡ inside.kept_journal) → journal ≡ inside.journal → map ≡ record inside.map { spare = map.spare }
+    → (fault ≢ journals.Device → new ≡ service_view (record inside { disk = disk; journal = journal; kept_journal = kept_journal; map = map }))
     → told ≢ Device → new ≡ service_view inside
-refused_unchanged inside disk journal map new fault told is (inl device) kept same left other = absurd (other (is ∙ ap told_as device))
-refused_unchanged inside disk journal map new fault told is (inr unwritten) kept same left other =
-    left (λ device. other (is ∙ ap told_as device)) ∙ (λ i. service_view (record inside { disk = unwritten i; journal = kept i; map = same i }))
+refused_unchanged inside disk journal kept_journal map new fault told is (inl device) behind kept same left other = absurd (other (is ∙ ap told_as device))
+refused_unchanged inside disk journal kept_journal map new fault told is (inr unwritten) (inl device) kept same left other =
+    absurd (other (is ∙ ap told_as device))
+refused_unchanged inside disk journal kept_journal map new fault told is (inr unwritten) (inr behind) kept same left other =
+    left (λ device. other (is ∙ ap told_as device))
+    ∙ (λ i. service_view (record inside { disk = unwritten i; journal = kept i; kept_journal = behind i; map = same i }))
 
 module _ {D : Type 0} (sectors : D → ℕ) (history : D → History) (stored : Stored) (service : ServiceView D)
     (ring : ring_of service.journal ≡ journal_ring service.size) (up : IsUp (sectors service.disk) (history service.disk) stored service) where
@@ -224,9 +230,10 @@ module _ {D : Type 0} (sectors : D → ℕ) (history : D → History) (stored : 
         → after.archive_len ≡ service.archive_len → after.publication ≡ service.publication → after.drafting ≡ service.drafting
         → after.published ≡ service.published → after.broken ≡ service.broken
         → ReadsAsBefore (ring_of service.journal) service.journal.place service.journal.used (seen (history service.disk)) (seen (history new))
+        → ((edits : List RecordedEdit) → ShowsEdits (history service.disk) service edits → StillShows (history new) service after edits (e ∷ []) 0)
         → IsUp (sectors new) (history new) (with_edit stored e) after
     up_with_edit after disk count size same is features since now_is right version generation snapshot_len archive_len publication drafting cached broken
-        reads = record {
+        reads shown = record {
           keeps = subst (λ (c : ℕ). Keeps c after.size (with_edit stored e) (history new)) (sym count)
               (subst (λ (n : ℕ). Keeps (sectors service.disk) n (with_edit stored e) (history new)) (sym size) (keeps_edit after.journal same.0 same.1 is));
           unbroken = broken ∙ up.unbroken;
@@ -255,8 +262,25 @@ module _ {D : Type 0} (sectors : D → ℕ) (history : D → History) (stored : 
               (subst (λ (p : ArchivePlace). ArePublished service.published p stored.archive)
               (sym (λ i. archive_place (size i) (generation i) (snapshot_len i) (archive_len i))) up.archived);
           reads = right up.reads;
+          older = drop still.count up.older;
+          shows = subst (ShowsEdits (history new) after) (ap (λ (l : List RecordedEdit). l ++ e ∷ []) (drop-append-le still.count up.older stored.since few)
+              ∙ append_assoc (drop still.count up.older) stored.since (e ∷ [])) still.shows;
         }
       where
+        still : StillShows (history new) service after (up.older ++ stored.since) (e ∷ []) 0
+        still = shown (up.older ++ stored.since) up.shows
+
+        -- none of those since the snapshot goes
+        few : still.count ≤ length up.older
+        few = omega (
+          arith,
+          still.forgotten,
+          still.shows.back.edits,
+          ap (λ (s : RecordStart). s.number) same.1,
+          up.edits_are,
+          older_count (sectors service.disk) (history service.disk) stored service up,
+        )
+
         map_is : after.features ≡ map_of (with_edit stored e)
         map_is = features ∙ ap (λ (m : FeatureMap). made m e) up.map_is ∙ sym (after_one stored.snapshot_map stored.since e)
 

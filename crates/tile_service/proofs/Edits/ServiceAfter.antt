@@ -5,6 +5,7 @@ use Rattle.sector_disk.specs.declared.disk.TheConstants.{SECTOR_BYTES}
 use Rattle.generations.specs.Areas.{area_sectors, sectors_of}
 use Rattle.generations.specs.declared.root.Root.{Root}
 use Rattle.edit_journal.specs.Appends.{ring_of, start_of}
+use Rattle.edit_journal.specs.Kept.{GoesBack}
 use Rattle.edit_journal.specs.Records.{IsRecordLength, parts_of}
 use Rattle.edit_journal.specs.declared.journal.Journal.{Journal}
 use Rattle.edit_journal.specs.declared.sizes.TheConstants.{PART_BYTES}
@@ -71,10 +72,11 @@ module _ (size version : ℕ) (root : Root) (old new : Journal) (ring : ring_of 
 
   -- A moment that is still asked for is one of the map after the edit, too.
   pub service_on : (sectors now : ℕ) (publication : Option PublicationView) (known : Option MapMetadata) (moment then : Option MomentView)
-      (draft : Option Draft) → now ≡ sectors → moment_map then ≡ moment_map moment
+      (draft : Option Draft) (kept_journal later_kept : Journal) → now ≡ sectors → moment_map then ≡ moment_map moment
       → (IsMomentOf moment map.features → IsMomentOf then later.features)
-      → IsService sectors size version root old map publication known moment draft → IsService now size version root new later publication None then draft
-  service_on sectors now publication known moment then draft same same_moment as_of was = record {
+      → GoesBack later_kept new → IsService sectors size version root old kept_journal map publication known moment draft
+      → IsService now size version root new later_kept later publication None then draft
+  service_on sectors now publication known moment then draft kept_journal later_kept same same_moment as_of back was = record {
     within = omega (arith, was.within, same);
     version_is = was.version_is;
     ring = ring ∙ was.ring;
@@ -82,6 +84,7 @@ module _ (size version : ℕ) (root : Root) (old new : Journal) (ring : ring_of 
     texts = texts_on old.used new.used (omega (arith, used)) was.texts;
     counted = append_counted old new ring from bytes version fits used last was.counted;
     last_is = numbered;
+    back = back;
     going = going_on publication was.going;
     told = tt;
     as_of = as_of was.as_of;
@@ -94,14 +97,16 @@ same_drafted old new draft same =
     ap (λ (o : Option FeatureMap). option_map (λ (d : Draft). record { start = d.start; places = d.places; features = map_then o }) draft) same
 
 -- After an edit that is refused the invariants hold as before, with more memory for features.
-pub refused_service : {sectors now size version : ℕ} {root : Root} {old : Journal} {publication : Option PublicationView} {known : Option MapMetadata}
-    {moment : Option MomentView} {draft : Option Draft} (new : Journal) (map later : CachedView) → now ≡ sectors → new ≡ old
-    → later ≡ record map { spare = later.spare } → IsService sectors size version root old map publication known moment draft
-    → IsService now size version root new later publication known moment draft
-refused_service {sectors} {now} {size} {version} {root} {old} {publication} {known} {moment} {draft} new map later count kept same is =
-    subst (λ (n : ℕ). IsService n size version root new later publication known moment draft) (sym count)
-    (subst (λ (j : Journal). IsService sectors size version root j later publication known moment draft) (sym kept)
-    (subst (λ (m : CachedView). IsService sectors size version root old m publication known moment draft) (sym same) (record {
+pub refused_service : {sectors now size version : ℕ} {root : Root} {old kept_journal : Journal} {publication : Option PublicationView} {known : Option MapMetadata}
+    {moment : Option MomentView} {draft : Option Draft} (new later_kept : Journal) (map later : CachedView) → now ≡ sectors → new ≡ old
+    → GoesBack later_kept new → later ≡ record map { spare = later.spare }
+    → IsService sectors size version root old kept_journal map publication known moment draft
+    → IsService now size version root new later_kept later publication known moment draft
+refused_service {sectors} {now} {size} {version} {root} {old} {kept_journal} {publication} {known} {moment} {draft} new later_kept map later count kept back
+    same is =
+    subst (λ (n : ℕ). IsService n size version root new later_kept later publication known moment draft) (sym count)
+    (subst (λ (j : Journal). IsService sectors size version root j later_kept later publication known moment draft) (sym kept)
+    (subst (λ (m : CachedView). IsService sectors size version root old later_kept m publication known moment draft) (sym same) (record {
       within = is.within;
       version_is = is.version_is;
       ring = is.ring;
@@ -109,6 +114,7 @@ refused_service {sectors} {now} {size} {version} {root} {old} {publication} {kno
       texts = is.texts;
       counted = is.counted;
       last_is = is.last_is;
+      back = subst (GoesBack later_kept) kept back;
       going = is.going;
       told = is.told;
       as_of = is.as_of;

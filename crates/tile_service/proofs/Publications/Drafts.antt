@@ -1,6 +1,6 @@
 -- A publication in the making: its beginning, and the publication that it becomes.
 use Rattle.std.specs.Prelude.{Option, None, Some, IfSome}
-use Rattle.std.proofs.Common.{◌≡◌, ◌≤◌, ◌<◌, ◌+◌, ◌-◌, ◌%◌, ◌^◌, ℕ, suc, List, length, take, sym, ap, subst, ◌∙◌, arith}
+use Rattle.std.proofs.Common.{◌≡◌, ◌≤◌, ◌<◌, ◌+◌, ◌-◌, ◌%◌, ◌^◌, ℕ, suc, List, ◌++◌, length, take, refl, sym, ap, subst, ◌∙◌, arith}
 use Rattle.std.proofs.lemmas.Bool.{false≢true}
 use Rattle.std.proofs.lemmas.List.{length-map, take_all}
 use Rattle.std.specs.Option.{is_some}
@@ -27,6 +27,7 @@ use Rattle.tile_service.specs.declared.fault.ServiceFault.{ServiceFault}
 use Rattle.tile_service.specs.declared.drafting.DraftStage.{DraftStage}
 use Rattle.tile_service.specs.declared.drafting.DraftStage.TheVariants.{Reading, Going, Found, Refused}
 use Rattle.tile_service.specs.declared.metadata_steps.MapMetadata.{MapMetadata}
+use Rattle.tile_service.proofs.Edits.ShownEdits.{shows_on}
 use Rattle.tile_service.proofs.Publications.DuringEdits.{begins}
 use Rattle.tile_service.proofs.Publications.Installed.{all_taken}
 use Rattle.tile_service.proofs.Publications.Steps.{archive_of_publishable, up_with}
@@ -91,12 +92,12 @@ draft_goes size root journal features m d content going is = record {
 }
 
 -- A service whose draft is further has the invariants as before.
-pub service_drafting : {sectors size version : ℕ} {root : Root} {journal : Journal} {map : CachedView} {publication : Option PublicationView}
+pub service_drafting : {sectors size version : ℕ} {root : Root} {journal kept_journal : Journal} {map : CachedView} {publication : Option PublicationView}
     {known : Option MapMetadata} {moment : Option MomentView} {draft : Option Draft} (old : Draft) (made : ℕ) (stage : DraftStage) → draft ≡ Some old
     → ((area : ℕ) → IsStage area (map_then (moment_map moment)) old.stage → IsStage area (map_then (moment_map moment)) stage)
-    → IsService sectors size version root journal map publication known moment draft
-    → IsService sectors size version root journal map publication known moment (Some (record old { made = made; stage = stage }))
-service_drafting {size = size} {root = root} {journal} {map} {moment = moment} old made stage is further was =
+    → IsService sectors size version root journal kept_journal map publication known moment draft
+    → IsService sectors size version root journal kept_journal map publication known moment (Some (record old { made = made; stage = stage }))
+service_drafting {size = size} {root = root} {journal} {map = map} {moment = moment} old made stage is further was =
     let going = subst (λ (o : Option Draft). IfSome o (λ d. (moment_map moment ≡ Some (map_then (moment_map moment)))
     × IsGoingDraft size root journal map.features (map_then (moment_map moment)) d)) is was.drafts in
     record {
@@ -107,6 +108,7 @@ service_drafting {size = size} {root = root} {journal} {map} {moment = moment} o
       texts = was.texts;
       counted = was.counted;
       last_is = was.last_is;
+      back = was.back;
       going = was.going;
       told = was.told;
       as_of = was.as_of;
@@ -159,6 +161,8 @@ module _ {D : Type 0} (sectors : ℕ) (h : History) (stored : Stored) (service :
     were = up.were;
     archived = up.archived;
     reads = up.reads;
+    older = up.older;
+    shows = shows_on service (record service { drafting = d }) h h (up.older ++ stored.since) refl refl refl (λ at inside. refl) up.shows;
   }
 
   -- It continues with one of the map of now.
@@ -187,12 +191,12 @@ up_drafted sectors h stored service d content up is generation is_map has =
 -- ---- the service without it
 
 -- the invariants without a draft, and with another publication that is going on
-pub service_undrafted : {sectors size version : ℕ} {root : Root} {journal : Journal} {map : CachedView} {publication : Option PublicationView}
+pub service_undrafted : {sectors size version : ℕ} {root : Root} {journal kept_journal : Journal} {map : CachedView} {publication : Option PublicationView}
     {known : Option MapMetadata} {moment : Option MomentView} {draft : Option Draft} (later : Option PublicationView) (then : Option MomentView)
     (rest : Option Draft) → then ≡ None → rest ≡ None → IfSome later (IsGoing size root journal map.features)
-    → IsService sectors size version root journal map publication known moment draft
-    → IsService sectors size version root journal map later known then rest
-service_undrafted {size = size} {root = root} {journal} {map} later then rest none_then none going was = record {
+    → IsService sectors size version root journal kept_journal map publication known moment draft
+    → IsService sectors size version root journal kept_journal map later known then rest
+service_undrafted {size = size} {root = root} {journal} {map = map} later then rest none_then none going was = record {
   within = was.within;
   version_is = was.version_is;
   ring = was.ring;
@@ -200,6 +204,7 @@ service_undrafted {size = size} {root = root} {journal} {map} later then rest no
   texts = was.texts;
   counted = was.counted;
   last_is = was.last_is;
+  back = was.back;
   going = going;
   told = was.told;
   as_of = subst (λ (o : Option MomentView). IsMomentOf o map.features) (sym none_then) tt;
@@ -218,21 +223,21 @@ is_map_then None features as_of is = absurd (false≢true (ap is_some is))
 is_map_then (Some t) features as_of is = as_of.is_map
 
 -- A draft that is there goes on: what is invariant of it.
-pub draft_there : {sectors size version : ℕ} {root : Root} {journal : Journal} {map : CachedView} {publication : Option PublicationView}
+pub draft_there : {sectors size version : ℕ} {root : Root} {journal kept_journal : Journal} {map : CachedView} {publication : Option PublicationView}
     {known : Option MapMetadata} {moment : Option MomentView} {draft : Option Draft} (d : Draft) → draft ≡ Some d
-    → IsService sectors size version root journal map publication known moment draft
+    → IsService sectors size version root journal kept_journal map publication known moment draft
     → IsMap (map_then (moment_map moment)) × IsGoingDraft size root journal map.features (map_then (moment_map moment)) d
-draft_there {size = size} {root = root} {journal} {map} {moment = moment} d is was =
+draft_there {size = size} {root = root} {journal} {map = map} {moment = moment} d is was =
     let there = subst (λ (o : Option Draft). IfSome o (λ x. (moment_map moment ≡ Some (map_then (moment_map moment)))
     × IsGoingDraft size root journal map.features (map_then (moment_map moment)) x)) is was.drafts in
     (is_map_then moment map.features was.as_of there.0, there.1)
 
 -- With what is made of it, it is as far as that is.
-pub stage_reached : {sectors size version : ℕ} {root : Root} {journal : Journal} {map : CachedView} {publication : Option PublicationView}
+pub stage_reached : {sectors size version : ℕ} {root : Root} {journal kept_journal : Journal} {map : CachedView} {publication : Option PublicationView}
     {known : Option MapMetadata} {moment : Option MomentView} {draft : Option Draft} (d : Draft) (then : Option MomentView) (reached : DraftStage)
     → draft ≡ Some d → then ≡ moment
     → ((area : ℕ) → IsStage area (map_then (moment_map then)) d.stage → IsStage area (map_then (moment_map then)) reached)
-    → IsService sectors size version root journal map publication known moment draft
+    → IsService sectors size version root journal kept_journal map publication known moment draft
     → IsStage (area_sectors size) (map_then (moment_map moment)) reached
 stage_reached {size = size} {moment = moment} d then reached is same further was =
     subst (λ (o : Option MomentView). (area : ℕ) → IsStage area (map_then (moment_map o)) d.stage → IsStage area (map_then (moment_map o)) reached)

@@ -1,9 +1,9 @@
 -- What is stored once a publication is installed.
 use Rattle.std.proofs.Common.{◌≡◌, ◌⊎◌, inl, inr, ⊎_elim, ℕ, false, zero, suc, ◌<◌, ◌≤◌, ◌+◌, ◌-◌, ◌%◌}
-use Rattle.std.proofs.Common.{List, [], ◌∷◌, length, take, drop, Result, Ok, Err, OnOk, refl, sym, ◌∙◌, ap, subst, arith}
+use Rattle.std.proofs.Common.{List, [], ◌∷◌, ◌++◌, length, take, drop, append_assoc, Result, Ok, Err, OnOk, refl, sym, ◌∙◌, ap, subst, arith}
 use Rattle.std.proofs.Common.{length-append, length-drop}
 use Rattle.std.specs.Prelude.{Option, None, IfSome}
-use Rattle.std.proofs.lemmas.List.{length-map, length-take, drop-map, take_all, take-append-le, drop-append-le}
+use Rattle.std.proofs.lemmas.List.{length-map, length-take, drop-map, take_all, take-append-le, take-append-drop, drop-append-le}
 use Rattle.std.proofs.lemmas.List.Elements.{All-drop}
 use Rattle.std.proofs.lemmas.Nat.{mod_below}
 use Rattle.sector_disk.specs.Disk.{Image, History, seen, MayLeave}
@@ -28,7 +28,7 @@ use Rattle.tile_service.specs.After.{after, made}
 use Rattle.cached_map.specs.Cached.{AreReadRight}
 use Rattle.published_tiles.specs.Published.{ArePublished}
 use Rattle.tile_service.specs.Publishing.{map_at, published, CanPublish, HasArea}
-use Rattle.tile_service.specs.Service.{ServiceView, PublicationView, Publishes, IsUp, archive_of}
+use Rattle.tile_service.specs.Service.{ServiceView, PublicationView, Publishes, ShowsEdits, IsUp, archive_of}
 use Rattle.tile_service.specs.Stored.{Stored, Holds, HasBytes, HasEarlierRoot, IsMapArchive, Keeps}
 use Rattle.tile_service.specs.Stored.{map_of, last_of, root_of, CanRecord, record_for, stored_records, with_edit, journal_ring, journal_start}
 use Rattle.tile_service.specs.Tiles.{WereMaps}
@@ -246,9 +246,9 @@ module _ (n : ℕ) (stored : Stored) (taken : ℕ) (archive : List ℕ) (within 
       → service.archive_len ≡ length archive → service.publication ≡ None → service.drafting ≡ None
       → WereMaps service.features service.touched service.journal.last (stored.edits + taken) (map_at stored taken) (drop taken stored.since)
       → ArePublished service.published (archive_of service) archive → AreReadRight service.features service.touched service.journal.last service.kept
-      → IsUp count h (published n stored taken archive) service
+      → (older : List RecordedEdit) → ShowsEdits h service (older ++ stored.since) → IsUp count h (published n stored taken archive) service
   up_published count h service size keeps unbroken version generation features place edits ring used last snapshot_ archive_ publication undrafted were archived
-      reads = record {
+      reads older shows = record {
         keeps = subst (λ (k : ℕ). Keeps count k (published n stored taken archive) h) (sym size) keeps;
         unbroken = unbroken;
         version_is = version;
@@ -266,6 +266,9 @@ module _ (n : ℕ) (stored : Stored) (taken : ℕ) (archive : List ℕ) (within 
         were = were;
         archived = archived;
         reads = reads;
+        older = older ++ take taken stored.since;
+        shows = subst (ShowsEdits h service) (ap (λ (l : List RecordedEdit). older ++ l) (sym (take-append-drop taken stored.since))
+            ∙ sym (append_assoc older (take taken stored.since) (drop taken stored.since))) shows;
       }
     where
       left : service.journal.used ≡ places_of (drop taken (stored_records stored))

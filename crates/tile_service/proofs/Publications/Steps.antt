@@ -1,5 +1,5 @@
 -- The beginning of a publication, its steps and its end.
-use Rattle.std.proofs.Common.{◌≡◌, ◌≢◌, ◌⊎◌, inl, inr, ⊎_elim, ◌<◌, ◌≤◌, ◌+◌, ◌-◌, ◌^◌, ◌%◌, ℕ, zero, suc, false, true, List, length, take, drop}
+use Rattle.std.proofs.Common.{◌≡◌, ◌≢◌, ◌⊎◌, inl, inr, ⊎_elim, ◌<◌, ◌≤◌, ◌+◌, ◌-◌, ◌^◌, ◌%◌, ℕ, zero, suc, false, true, List, ◌++◌, length, take, drop}
 use Rattle.std.proofs.Common.{Result, Ok, Err, OnOk, Some, refl, sym, ◌∙◌, ap, subst, arith}
 use Rattle.std.proofs.lemmas.Bool.{false≢true}
 use Rattle.std.proofs.lemmas.List.{length-map, take_all}
@@ -18,7 +18,7 @@ use Rattle.generations.specs.Installs.{root_at, Installs}
 use Rattle.generations.specs.Sectors.{root_sector}
 use Rattle.generations.specs.declared.root.Root.{Root}
 use Rattle.edit_journal.specs.Appends.{ring_of}
-use Rattle.edit_journal.specs.Ring.{Ring, places_of}
+use Rattle.edit_journal.specs.Ring.{Ring, IsInRing, places_of}
 use Rattle.edit_journal.specs.declared.journal.Journal.{Journal}
 use Rattle.area_content.specs.Content.{sectors_taken}
 use Rattle.area_content.specs.Faults.{IsBuiltFor}
@@ -36,7 +36,7 @@ use Rattle.tile_cache.specs.Kept.{CacheView}
 use Rattle.tile_service.specs.Machine.{ServiceState, step, Begins, CanBegin, IsPublishable, BeginFault, Refuses, AnswersStep, HasPublication, after_install}
 use Rattle.tile_service.specs.Publishing.{HasNoContent, map_at, published, CanPublish, HasFirst, HasArea, IsUnderWay}
 use Rattle.tile_service.specs.Service.{IsGoing, IsService, TellsDevice}
-use Rattle.tile_service.specs.Service.{PublicationView, ServiceView, Known, Publishes, IsUp, EventLeaves, count_at, left_of, archive_of}
+use Rattle.tile_service.specs.Service.{PublicationView, ServiceView, Known, Publishes, ShowsEdits, IsUp, EventLeaves, count_at, left_of, archive_of}
 use Rattle.tile_service.specs.Service.{going_of, state_of, known_after, known_installed, installed, stored_after, with_publication}
 use Rattle.tile_service.specs.Stored.{Stored, Holds, IsMapArchive, Keeps, root_of, journal_ring, record_for, stored_records}
 use Rattle.tile_service.specs.Tiles.{WereMaps}
@@ -53,19 +53,19 @@ use Rattle.tile_service.proofs.Publications.DuringEdits.{begins, all_written}
 -- ---- what is invariant
 
 -- A service on another disk with as many sectors has the invariants as before,
-pub service_on_disk : {sectors now size version : ℕ} {root : Root} {journal : Journal} {map : CachedView} {publication : Option PublicationView}
+pub service_on_disk : {sectors now size version : ℕ} {root : Root} {journal kept_journal : Journal} {map : CachedView} {publication : Option PublicationView}
     {known : Option MapMetadata} {moment : Option MomentView} {draft : Option Draft} → now ≡ sectors
-    → IsService sectors size version root journal map publication known moment draft
-    → IsService now size version root journal map publication known moment draft
-service_on_disk {size = size} {version} {root} {journal} {map} {publication} {known} {moment} {draft} same is =
-    subst (λ (n : ℕ). IsService n size version root journal map publication known moment draft) (sym same) is
+    → IsService sectors size version root journal kept_journal map publication known moment draft
+    → IsService now size version root journal kept_journal map publication known moment draft
+service_on_disk {size = size} {version} {root} {journal} {kept_journal} {map} {publication} {known} {moment} {draft} same is =
+    subst (λ (n : ℕ). IsService n size version root journal kept_journal map publication known moment draft) (sym same) is
 
 -- and one with another publication under way if that is going,
-pub service_with : {sectors size version : ℕ} {root : Root} {journal : Journal} {map : CachedView} {publication : Option PublicationView}
+pub service_with : {sectors size version : ℕ} {root : Root} {journal kept_journal : Journal} {map : CachedView} {publication : Option PublicationView}
     {known : Option MapMetadata} {moment : Option MomentView} {draft : Option Draft} (later : Option PublicationView)
     → IfSome later (IsGoing size root journal map.features)
-    → IsService sectors size version root journal map publication known moment draft
-    → IsService sectors size version root journal map later known moment draft
+    → IsService sectors size version root journal kept_journal map publication known moment draft
+    → IsService sectors size version root journal kept_journal map later known moment draft
 service_with later going is = record {
   within = is.within;
   version_is = is.version_is;
@@ -74,6 +74,7 @@ service_with later going is = record {
   texts = is.texts;
   counted = is.counted;
   last_is = is.last_is;
+  back = is.back;
   going = going;
   told = is.told;
   as_of = is.as_of;
@@ -81,11 +82,11 @@ service_with later going is = record {
 }
 
 -- or without one.
-pub service_idle : {sectors size version : ℕ} {root : Root} {journal : Journal} {map : CachedView} {publication : Option PublicationView}
+pub service_idle : {sectors size version : ℕ} {root : Root} {journal kept_journal : Journal} {map : CachedView} {publication : Option PublicationView}
     {known : Option MapMetadata} {moment : Option MomentView} {draft : Option Draft} (later : Option PublicationView) → later ≡ None
-    → IsService sectors size version root journal map publication known moment draft
-    → IsService sectors size version root journal map later known moment draft
-service_idle {size = size} {root = root} {journal} {map} later none is =
+    → IsService sectors size version root journal kept_journal map publication known moment draft
+    → IsService sectors size version root journal kept_journal map later known moment draft
+service_idle {size = size} {root = root} {journal} {map = map} later none is =
     service_with later (subst (λ (o : Option PublicationView). IfSome o (IsGoing size root journal map.features)) (sym none) tt) is
 
 -- A publication is going on under a root of this service's generation.
@@ -149,7 +150,7 @@ module _ {D : Type 0} (sectors : ℕ) (h : History) (stored : Stored) (service :
   -- A service with another publication continues from what is stored, if the publication is one of that.
   pub up_with : (p : Option PublicationView) → IfSome p (Publishes service.size stored h) → IsUp sectors h stored (record service { publication = p })
   up_with p publishes = up_moved sectors h stored service up service.disk p service.published service.kept sectors h up.keeps publishes
-      up.archived up.reads
+      up.archived up.reads (λ at inside. refl)
 
   module _ (p : PublicationView) (is_map : IsMap service.features) (is_archive : IsMapArchive service.features p.content.archive)
       (text : p.content.snapshot ≡ snapshot service.features) (area : sectors_taken p.content ≤ area_sectors service.size)
@@ -281,8 +282,10 @@ module _ {D : Type 0} (sectors : ℕ) (old : History) (stored : Stored) (service
         → after.journal.place ≡ p.start.place → after.journal.edits ≡ p.start.edits → ring_of after.journal ≡ ring_of service.journal
         → after.journal.used + p.places ≡ service.journal.used → after.journal.last ≡ service.journal.last
         → after.snapshot_len ≡ length p.content.snapshot → after.archive_len ≡ length p.content.archive → after.publication ≡ None → after.drafting ≡ None
-        → after.touched ≡ service.touched → after.published ≡ service.published → after.kept ≡ service.kept → IsUp count new next after
-    up_installed count after same is size broken version generation features place edits ring freed last text archive none undrafted touched published_is kept =
+        → after.touched ≡ service.touched → after.published ≡ service.published → after.kept ≡ service.kept
+        → ShowsEdits new after (up.older ++ stored.since) → IsUp count new next after
+    up_installed count after same is size broken version generation features place edits ring freed last text archive none undrafted touched published_is kept
+        shows =
         subst (λ (k : ℕ). IsUp k new next after) (sym same)
         (up_published service.size stored (count_at stored p) p.content.archive going.under_way.can.within sectors new after size
         (installed_keeps sectors service.size stored (count_at stored p) p.content.archive going.under_way.can old new up.keeps area_stands
@@ -290,7 +293,7 @@ module _ {D : Type 0} (sectors : ℕ) (old : History) (stored : Stored) (service
         (broken ∙ up.unbroken) (version ∙ up.version_is) (omega (arith, generation, up.generation_is)) (features ∙ up.map_is) (place ∙ going.place_is)
         (omega (arith, edits, going.later)) (ring ∙ up.ring_is ∙ sym (ap journal_ring size))
         (omega (arith, freed, going.places_are, up.used_is)) (last ∙ up.last_is)
-        (text ∙ ap length going.snapshot_is) archive none undrafted were archived reads)
+        (text ∙ ap length going.snapshot_is) archive none undrafted were archived reads up.older shows)
       where
         map : FeatureMap
         map = map_at stored (count_at stored p)
@@ -327,8 +330,9 @@ pub up_further : {D : Type 0} (sectors count : ℕ) (old new : History) (stored 
     → Keeps sectors service.size stored new
     → (HasFirst service.size generation p.content.snapshot p.content.archive p.written (seen old)
     → HasFirst service.size generation p.content.snapshot p.content.archive to (seen new))
+    → ((at : ℕ) → IsInRing (ring_of service.journal) at → seen new at ≡ seen old at)
     → IsUp count new stored (with_publication (record service { disk = disk }) (record p { written = to }))
-up_further sectors count old new stored service p generation to disk up same next keeps more =
+up_further sectors count old new stored service p generation to disk up same next keeps more reads =
     up_moved sectors old stored (with_publication service p) up disk (Some (record p { written = to })) service.published service.kept count new
     (subst (λ (k : ℕ). Keeps k service.size stored new) (sym same) keeps) (record {
       later = was.later;
@@ -342,7 +346,7 @@ up_further sectors count old new stored service p generation to disk up same nex
       snapshot_is = was.snapshot_is;
       place_is = was.place_is;
       places_are = was.places_are;
-    }) up.archived up.reads
+    }) up.archived up.reads reads
   where
     was : Publishes service.size stored old p
     was = up.publication

@@ -21,16 +21,18 @@ use Rattle.serde_json.specs.Data.{Data}
 use Rattle.tile_service.specs.Machine.{ServiceState, OrMemory, Happening, Call, edit, begin, step, cancel, check, tile, tile_number, look, look_from}
 use Rattle.tile_service.specs.Machine.{metadata, read, list_edits}
 use Rattle.tile_service.specs.Machine.{IfTold, AnswersEdit, AnswersBegin, AnswersStep, AnswersCancel, AnswersCheck, Happens, Runs}
-use Rattle.tile_service.specs.Runs.{IsDoubtful, happening_at, all_edits, way_of, Way, Progress, starts, progress_of, NoneInDoubt, Reaches}
+use Rattle.tile_service.specs.Runs.{IsDoubtful, edits_by, waiting_by, happening_at, all_edits, way_of, Way, Progress, starts, progress_of, NoneInDoubt, Reaches}
 use Rattle.tile_service.specs.Runs.{begin_and_steps, IsTrusted, ChangesOnly, Takes, TakesEdit, TakesAll, TakesRun}
 use Rattle.tile_service.specs.Service.{PublicationView, ServiceView, Known, Publishes, IsUp, state_of, known_after}
 use Rattle.tile_service.specs.Service.{KeepsDraft, ShowsArchive, KeepsArchive, ReadsFrom, EventLeaves, shown_archive, stored_after}
-use Rattle.tile_service.specs.Listing.{ShowsEdits, ListsFrom}
+use Rattle.tile_service.specs.Service.{ShowsEdits, StillShows, KeepsEdits}
+use Rattle.tile_service.specs.Listing.{ListsFrom}
 use Rattle.tile_service.specs.Stored.{Stored, Holds, Keeps, last_of}
 use Rattle.tile_service.specs.Tags.{StillKnows, TellsNumber, IsNumbered}
 use Rattle.tile_service.specs.declared.fault.ServiceFault.{ServiceFault}
 use Rattle.tile_service.specs.declared.fault.ServiceFault.TheVariants.{Device}
 use Rattle.tile_service.proofs.Archive.Read.{archive_there, archive_is_shown, shown_is_seen}
+use Rattle.tile_service.proofs.Edits.ShownEdits.{shows_on, still_from}
 use Rattle.tile_service.proofs.Runs.DiskAfter.{RunLeaves, IsHere, by_next, doubt_breaks, goes_on_by, run_starts, run_goes_on, run_fits, reaches_on}
 use Rattle.tile_service.proofs.Runs.DiskAfter.{published_within, sized_as, starts_by}
 use Rattle.tile_service.proofs.Runs.Progress.{Within, IsSince, has_start, has_last, progress_on, progress_edits, way_seen, way_after}
@@ -132,6 +134,22 @@ module _ {D : Type 0} (sectors : D → ℕ) (honest : D → Type 0) (history : D
     };
   }
 
+  -- and so are the edits
+  shown_same : (old new : ServiceView D) (event : Happening)
+      → new ≡ record old { disk = new.disk; publication = new.publication; published = new.published; kept = new.kept }
+      → (honest new.disk → history new.disk ≡ history old.disk) → edits_by event ≡ [] → (edits : List RecordedEdit) → ShowsEdits (history old.disk) old edits
+      → honest new.disk → StillShows (history new.disk) old new edits (edits_by event) (waiting_by event)
+  shown_same old new event same unwritten none edits shows is_honest = still_from (history new.disk) old new edits (edits_by event) (waiting_by event) none
+      (ap (λ (s : ServiceView D). s.kept_journal.edits) same)
+      (shows_on old new (history old.disk) (history new.disk) edits (ap (λ (s : ServiceView D). s.kept_journal) same)
+      (ap (λ (s : ServiceView D). s.journal) same) (ap (λ (s : ServiceView D). s.version) same)
+      (λ at inside. ap (λ (h : History). seen h at) (unwritten is_honest)) shows)
+
+  shown_kept : (old new : ServiceView D) (event : Happening) → edits_by event ≡ [] → KeepsEdits honest history old new → (edits : List RecordedEdit)
+      → ShowsEdits (history old.disk) old edits → honest new.disk → StillShows (history new.disk) old new edits (edits_by event) (waiting_by event)
+  shown_kept old new event none keeps edits shows is_honest = let is = keeps edits shows is_honest in
+      still_from (history new.disk) old new edits (edits_by event) (waiting_by event) none is.0 is.1
+
   with_published : (old new : ServiceView D) → new ≡ record old { publication = new.publication }
       → new ≡ record old { disk = new.disk; publication = new.publication; published = new.published; kept = new.kept }
   with_published old new same = same
@@ -149,12 +167,14 @@ module _ {D : Type 0} (sectors : D → ℕ) (honest : D → Type 0) (history : D
   -- what leaves all but what is read of the disk
   module _ (old new : ServiceView D) (same : new ≡ record old { disk = new.disk; published = new.published; kept = new.kept })
       (reads : OnlyReads sectors honest history old.disk new.disk) where
-    shows_same : KeepsArchive honest history old new
-    shows_same = same_archive old new (same
-        ∙ (λ i. record old { disk = new.disk; publication = publication i; published = new.published; kept = new.kept })) reads.same_history
+    same_read : new ≡ record old { disk = new.disk; publication = new.publication; published = new.published; kept = new.kept }
+    same_read = same ∙ (λ i. record old { disk = new.disk; publication = publication i; published = new.published; kept = new.kept })
       where
         publication : old.publication ≡ new.publication
         publication = sym (ap (λ (s : ServiceView D). s.publication) same)
+
+    shows_same : KeepsArchive honest history old new
+    shows_same = same_archive old new same_read reads.same_history
 
     knows_read : StillKnows old new
     knows_read = knows_same old new (ap (λ (s : ServiceView D). s.features) same) (ap (λ (s : ServiceView D). s.touched) same)
@@ -172,6 +192,7 @@ module _ {D : Type 0} (sectors : D → ℕ) (honest : D → Type 0) (history : D
       archive = λ archive shows honest. tt;
       listed = λ edits shows honest. tt;
       keeps_archive = λ other. shows_same;
+      shows = λ edits shows is_honest installs. shown_same old new (tile z x y outcome) same_read reads.same_history refl edits shows is_honest;
       doubt = λ is. absurd is;
       size = ap (λ (s : ServiceView D). s.size) same;
       version = ap (λ (s : ServiceView D). s.version) same;
@@ -196,6 +217,7 @@ module _ {D : Type 0} (sectors : D → ℕ) (honest : D → Type 0) (history : D
       archive = from;
       listed = λ edits shows honest. tt;
       keeps_archive = λ other. shows_same;
+      shows = λ edits shows is_honest installs. shown_same old new (read at outcome) same_read reads.same_history refl edits shows is_honest;
       machine = λ known. ap (λ (s : ServiceView D). state_of known s) same;
       doubt = λ is. absurd is;
       size = ap (λ (s : ServiceView D). s.size) same;
@@ -216,12 +238,13 @@ module _ {D : Type 0} (sectors : D → ℕ) (honest : D → Type 0) (history : D
         → IsUp (sectors new.disk) (history new.disk) stored new)
         → (number bytes : ℕ) (outcome : Result (List RecordData) JournalFault)
         → ((edits : List RecordedEdit) → ShowsEdits (history old.disk) old edits → honest new.disk
-        → ListsFrom old.journal.edits edits (list_edits number bytes outcome))
+        → ListsFrom old.kept_journal.edits edits (list_edits number bytes outcome))
         → Takes sectors honest history old (list_edits number bytes outcome) new
     list_step still_up number bytes outcome from = record {
       archive = λ archive shows honest. tt;
       listed = from;
       keeps_archive = λ other. shows_same;
+      shows = λ edits shows is_honest installs. shown_same old new (list_edits number bytes outcome) same_read reads.same_history refl edits shows is_honest;
       machine = λ known. ap (λ (s : ServiceView D). state_of known s) same;
       doubt = λ is. absurd is;
       size = ap (λ (s : ServiceView D). s.size) same;
@@ -244,6 +267,7 @@ module _ {D : Type 0} (sectors : D → ℕ) (honest : D → Type 0) (history : D
     archive = λ archive shows honest. tt;
     listed = λ edits shows honest. tt;
     keeps_archive = λ other. same_archive old old refl (λ is_honest. refl);
+    shows = λ edits shows is_honest installs. still_from (history old.disk) old old edits [] (waiting_by (tile_number z x y n)) refl refl shows;
     doubt = λ is. absurd is;
     size = refl;
     version = refl;
@@ -266,6 +290,7 @@ module _ {D : Type 0} (sectors : D → ℕ) (honest : D → Type 0) (history : D
     archive = λ archive shows honest. tt;
     listed = λ edits shows honest. tt;
     keeps_archive = λ other. same_archive old old refl (λ is_honest. refl);
+    shows = λ edits shows is_honest installs. still_from (history old.disk) old old edits [] (waiting_by (look id outcome)) refl refl shows;
     doubt = λ is. absurd is;
     size = refl;
     version = refl;
@@ -288,6 +313,7 @@ module _ {D : Type 0} (sectors : D → ℕ) (honest : D → Type 0) (history : D
     archive = λ archive shows honest. tt;
     listed = λ edits shows honest. tt;
     keeps_archive = λ other. same_archive old old refl (λ is_honest. refl);
+    shows = λ edits shows is_honest installs. still_from (history old.disk) old old edits [] (waiting_by (look_from id outcome)) refl refl shows;
     doubt = λ is. absurd is;
     size = refl;
     version = refl;
@@ -310,6 +336,7 @@ module _ {D : Type 0} (sectors : D → ℕ) (honest : D → Type 0) (history : D
     archive = λ archive shows honest. tt;
     listed = λ edits shows honest. tt;
     keeps_archive = λ other. same_archive old old refl (λ is_honest. refl);
+    shows = λ edits shows is_honest installs. still_from (history old.disk) old old edits [] (waiting_by (metadata outcome)) refl refl shows;
     doubt = λ is. absurd is;
     size = refl;
     version = refl;
@@ -333,6 +360,7 @@ module _ {D : Type 0} (sectors : D → ℕ) (honest : D → Type 0) (history : D
     archive = λ archive shown honest. tt;
     listed = λ edits shows honest. tt;
     keeps_archive = λ other. takes.keeps_archive;
+    shows = λ edits shows is_honest installs. takes.shows edits shows is_honest;
     doubt = doubt_breaks_it (Unit {0}) (state_of no_known old) (state_of no_known new) (edit call e outcome) (machine no_known);
     size = takes.size;
     version = edit_version (state_of no_known old) (state_of no_known new) call e outcome (machine no_known);
@@ -352,14 +380,16 @@ module _ {D : Type 0} (sectors : D → ℕ) (honest : D → Type 0) (history : D
       → ((known : Known) → Happens (IsTrusted sectors honest history old new) (state_of known old) happening (state_of (known_after known old happening) new))
       → new ≡ record old { publication = new.publication }
       → ((stored : Stored) → IsUp (sectors old.disk) (history old.disk) stored old → IsUp (sectors new.disk) (history new.disk) stored new)
-      → ((archive : List ℕ) → ReadsFrom archive happening) → ((edits : List RecordedEdit) → ListsFrom old.journal.edits edits happening)
-      → IsNumbered old happening → ¬ IsDoubtful happening → ChangesOnly sectors honest history happening old new
+      → ((archive : List ℕ) → ReadsFrom archive happening) → ((edits : List RecordedEdit) → ListsFrom old.kept_journal.edits edits happening)
+      → IsNumbered old happening → ¬ IsDoubtful happening → edits_by happening ≡ [] → ChangesOnly sectors honest history happening old new
       → ((stored : Stored) → stored_after old.size stored old.publication happening ≡ stored) → Takes sectors honest history old happening new
-  publication_step old new happening machine same up_still reads lists numbered sure changes stays_stored = record {
+  publication_step old new happening machine same up_still reads lists numbered sure none changes stays_stored = record {
     machine = machine;
     archive = λ archive shows honest. reads archive;
     listed = λ edits shows honest. lists edits;
     keeps_archive = λ other. same_archive old new (with_published old new same) (λ is_honest. ap (λ (s : ServiceView D). history s.disk) same);
+    shows = λ edits shows is_honest installs. shown_same old new happening (with_published old new same)
+        (λ is_honest. ap (λ (s : ServiceView D). history s.disk) same) none edits shows is_honest;
     doubt = λ is. absurd (sure is);
     size = ap (λ (s : ServiceView D). s.size) same;
     version = ap (λ (s : ServiceView D). s.version) same;
@@ -386,7 +416,7 @@ module _ {D : Type 0} (sectors : D → ℕ) (honest : D → Type 0) (history : D
       → ((stored : Stored) → IsUp (sectors old.disk) (history old.disk) stored old → IsUp (sectors new.disk) (history new.disk) stored new)
       → Takes sectors honest history old (begin outcome) new
   begin_step old new outcome machine same up_still =
-      publication_step old new (begin outcome) machine same up_still (λ archive. tt) (λ edits. tt) tt (λ is. is) tt (λ stored. refl)
+      publication_step old new (begin outcome) machine same up_still (λ archive. tt) (λ edits. tt) tt (λ is. is) refl tt (λ stored. refl)
 
   -- and so is its cancellation
   pub cancel_step : (old new : ServiceView D) (outcome : Result (Unit {0}) ServiceFault)
@@ -395,7 +425,7 @@ module _ {D : Type 0} (sectors : D → ℕ) (honest : D → Type 0) (history : D
       → ((stored : Stored) → IsUp (sectors old.disk) (history old.disk) stored old → IsUp (sectors new.disk) (history new.disk) stored new)
       → Takes sectors honest history old (cancel outcome) new
   cancel_step old new outcome machine same up_still =
-      publication_step old new (cancel outcome) machine same up_still (λ archive. tt) (λ edits. tt) tt (λ is. is) tt (λ stored. refl)
+      publication_step old new (cancel outcome) machine same up_still (λ archive. tt) (λ edits. tt) tt (λ is. is) refl tt (λ stored. refl)
 
   -- what a step of it does
   pub step_step : (old new : ServiceView D) (outcome : Result ℕ ServiceFault)
@@ -407,12 +437,15 @@ module _ {D : Type 0} (sectors : D → ℕ) (honest : D → Type 0) (history : D
       → ((stored : Stored) → honest new.disk → IsUp (sectors old.disk) (history old.disk) stored old
       → OnOk outcome (IsUp (sectors new.disk) (history new.disk) (stored_after old.size stored old.publication (step outcome)) new))
       → ((outcome ≡ Ok 0 → ⊥) → KeepsArchive honest history old new)
+      → ((outcome ≡ Ok 0 → (stored : Stored) × IsUp (sectors old.disk) (history old.disk) stored old) → KeepsEdits honest history old new)
       → Takes sectors honest history old (step outcome) new
-  step_step old new outcome machine size touched drafting asked same leaves up_after shows = record {
+  step_step old new outcome machine size touched drafting asked same leaves up_after shows keeps = record {
     machine = machine;
     archive = λ archive shown honest. tt;
     listed = λ edits shows honest. tt;
     keeps_archive = λ other. shows (λ (is : outcome ≡ Ok 0). other (ap step is));
+    shows = λ edits shows is_honest installs.
+        shown_kept old new (step outcome) refl (keeps (λ (is : outcome ≡ Ok 0). installs (ap step is))) edits shows is_honest;
     doubt = doubt_breaks_it (Unit {0}) (state_of no_known old) (state_of (known_after no_known old (step outcome)) new) (step outcome) (machine no_known);
     size = size;
     version = step_version (state_of no_known old) (state_of (known_after no_known old (step outcome)) new) outcome (machine no_known);
@@ -440,13 +473,14 @@ module _ {D : Type 0} (sectors : D → ℕ) (honest : D → Type 0) (history : D
       → LeavesOnly (history old.disk) (history new.disk) (Holds (sectors old.disk) old.size stored))
       → ((stored : Stored) → honest new.disk → IsUp (sectors old.disk) (history old.disk) stored old
       → OnOk outcome (IsUp (sectors new.disk) (history new.disk) stored new))
-      → KeepsArchive honest history old new
+      → KeepsArchive honest history old new → KeepsEdits honest history old new
       → Takes sectors honest history old (check outcome) new
-  check_step old new outcome machine size touched drafting asked same leaves up_after shows = record {
+  check_step old new outcome machine size touched drafting asked same leaves up_after shows keeps = record {
     machine = machine;
     archive = λ archive shown honest. tt;
     listed = λ edits shows honest. tt;
     keeps_archive = λ other. shows;
+    shows = λ edits shows is_honest installs. shown_kept old new (check outcome) refl keeps edits shows is_honest;
     doubt = doubt_breaks_it (Unit {0}) (state_of no_known old) (state_of no_known new) (check outcome) (machine no_known);
     size = size;
     version = check_version (state_of no_known old) (state_of no_known new) outcome (machine no_known);

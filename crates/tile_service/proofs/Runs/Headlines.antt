@@ -32,7 +32,7 @@ module _ {D : Type 0} (sectors : D → ℕ) (honest : D → Type 0) (history : D
 
   -- and a service that is opened to that state has some first edits
   pub opens_to_first : (start : Stored) (way : Option Way) (happenings : List Happening) (k count n : ℕ) (disk : D) (service : ServiceView D)
-      (fits : ImageFits count n start way happenings k (seen (history disk))) → HasListed start way happenings k (take fits.i fits.edits)
+      (fits : ImageFits count n start way happenings k (seen (history disk))) → HasListed start happenings k (take fits.i fits.edits)
       → IsUp (sectors service.disk) (history service.disk) (fitting start fits.edits fits.i fits.j fits.fits.0 fits.fits.1 fits.fits.2) service
       → HasSomeFirst (sectors service.disk) (history service.disk) start way happenings k service
   opens_to_first start way happenings k count n disk service fits listed up =

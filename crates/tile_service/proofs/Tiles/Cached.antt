@@ -90,12 +90,12 @@ pub nothing_given : (bytes : List ℕ) → None ≡ Some bytes → ⊥
 nothing_given bytes is = cc
 
 -- With other tiles cached the invariants of a service hold as before.
-pub service_cached : {sectors size version : ℕ} {root : Root} {journal : Journal} {publication : Option PublicationView} {known : Option MapMetadata}
+pub service_cached : {sectors size version : ℕ} {root : Root} {journal kept_journal : Journal} {publication : Option PublicationView} {known : Option MapMetadata}
     {moment : Option MomentView} {draft : Option Draft} (map later : CachedView) → later ≡ record map { kept = later.kept }
-    → IsService sectors size version root journal map publication known moment draft
-    → IsService sectors size version root journal later publication known moment draft
-service_cached {sectors} {size} {version} {root} {journal} {publication} {known} {moment} {draft} map later same is =
-    subst (λ (m : CachedView). IsService sectors size version root journal m publication known moment draft) (sym same) (record {
+    → IsService sectors size version root journal kept_journal map publication known moment draft
+    → IsService sectors size version root journal kept_journal later publication known moment draft
+service_cached {sectors} {size} {version} {root} {journal} {kept_journal} {publication} {known} {moment} {draft} map later same is =
+    subst (λ (m : CachedView). IsService sectors size version root journal kept_journal m publication known moment draft) (sym same) (record {
       within = is.within;
       version_is = is.version_is;
       ring = is.ring;
@@ -103,6 +103,7 @@ service_cached {sectors} {size} {version} {root} {journal} {publication} {known}
       texts = is.texts;
       counted = is.counted;
       last_is = is.last_is;
+      back = is.back;
       going = is.going;
       told = is.told;
       as_of = is.as_of;

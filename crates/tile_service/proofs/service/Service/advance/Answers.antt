@@ -1,11 +1,14 @@
-use Rattle.std.proofs.Common.{inl, true, Ok, Err, ◌+◌, ◌-◌, ◌≤◌, min, refl, sym, ◌∙◌, ap, subst, arith, ℕ, suc, ◌≡◌, Some}
+use Rattle.std.proofs.Common.{inl, true, Ok, Err, ◌+◌, ◌-◌, ◌≤◌, min, refl, sym, ◌∙◌, ap, subst, arith, ℕ, suc, ◌≡◌, Some, Result, OnOk}
+use Rattle.std.specs.Prelude.{IfOk}
 use Rattle.area_content.specs.Content.{sectors_taken}
 use Rattle.tile_service.specs.Inside.{publication_view, service_view}
 use Rattle.tile_service.specs.Service.{ServiceView, PublicationView, IsUp, KeepsDraft, with_publication}
 use Rattle.tile_service.specs.declared.fault.ServiceFault.TheVariants.{Device}
-use Rattle.tile_service.proofs.Archive.Unchanged.{beside_keeps, install_keeps, beside_area}
+use Rattle.tile_service.proofs.Archive.Unchanged.{beside_keeps, install_keeps, beside_area, ring_beside}
 use Rattle.tile_service.proofs.Publications.Steps.{up_further, step_leaves, last_step_leaves, up_after_step, up_after_last, step_told, last_step_told}
 use Rattle.tile_service.proofs.Publications.Steps.{step_fails, service_on_disk, service_with, going_seen, going_further}
+use Rattle.tile_service.proofs.Edits.ShownEdits.{shows_on}
+use Rattle.tile_service.specs.declared.fault.ServiceFault.{ServiceFault}
 use Rattle.sector_disk.specs.Asked.{TellsFailure}
 use Rattle.sector_disk.proofs.AskedLaws.{writes_on}
 use Rattle.tile_service.specs.declared.publishing.TheConstants.{STEP_SECTORS}
@@ -64,7 +67,8 @@ returns-then-left-le-STEP_SECTORS-clause-any_moment g c = rw (← c.self.view_is
     (with_publication (record service { disk = c.write_sectors.new.disk }) (record p { written = c.publication.inside.written + c.min-more.result })) =
     up_further _ _ _ _ stored service p (c.self.inside.root.generation + 1) (c.publication.inside.written + c.min-more.result) c.write_sectors.new.disk up
     c.write_sectors.ensures.disk.same_count refl (c.write_sectors.ensures.keeps stored written (next_of _ _ up.generation_is) up.keeps)
-    (c.in-Ok.ensures.first written) in
+    (c.in-Ok.ensures.first written)
+    (ring_beside _ _ _ _ _ c.self.invariant.ring (c.write_sectors.ensures.beside written)) in
     last_step_leaves _ _ stored p _ _ _ _ c.install_now.result c.write_sectors.ensures.disk.same_count c.install_now.ensures.told
     c.install_now.ensures.fault (last_left _ _ _ c.sectors.ensures c.if-left-le-STEP_SECTORS.true)
     (c.write_sectors.ensures.leaves stored written (next_of _ _ up.generation_is) up.keeps)
@@ -79,7 +83,8 @@ returns-then-left-le-STEP_SECTORS-clause-after g c = rw (← c.self.view_is, ←
     (with_publication (record service { disk = c.write_sectors.new.disk }) (record p { written = c.publication.inside.written + c.min-more.result })) =
     up_further _ _ _ _ stored service p (c.self.inside.root.generation + 1) (c.publication.inside.written + c.min-more.result) c.write_sectors.new.disk up
     c.write_sectors.ensures.disk.same_count refl (c.write_sectors.ensures.keeps stored written (next_of _ _ up.generation_is) up.keeps)
-    (c.in-Ok.ensures.first written) in
+    (c.in-Ok.ensures.first written)
+    (ring_beside _ _ _ _ _ c.self.invariant.ring (c.write_sectors.ensures.beside written)) in
     up_after_last _ stored p _ _ c.install_now.new.self c.install_now.result c.install_now.ensures.told
     (c.install_now.ensures.after stored honest between))
 
@@ -108,7 +113,8 @@ returns-clause-after g c = rw (← c.self.view_is, ← c.publication.view_is) (�
     (with_publication (record service { disk = c.write_sectors.new.disk }) (record p { written = c.publication.inside.written + c.min-more.result })) =
     up_further _ _ _ _ stored service p (c.self.inside.root.generation + 1) (c.publication.inside.written + c.min-more.result) c.write_sectors.new.disk up
     c.write_sectors.ensures.disk.same_count refl (c.write_sectors.ensures.keeps stored written (next_of _ _ up.generation_is) up.keeps)
-    (c.in-Ok.ensures.first written) in
+    (c.in-Ok.ensures.first written)
+    (ring_beside _ _ _ _ _ c.self.invariant.ring (c.write_sectors.ensures.beside written)) in
     up_after_step _ stored p _ _ _ (c.left-rest.result + 1) (omega arith) between)
 
 pub returns-in-Err-clause-archive : goal.returns-in-Err-clause-archive
@@ -276,3 +282,37 @@ returns-then-left-le-STEP_SECTORS-clause-drafting g c =
 
 pub returns-clause-drafting : goal.returns-clause-drafting
 returns-clause-drafting g c = inl (ap (λ s. s.drafting) c.self.view_is)
+
+-- ---- the edits that it shows
+
+on_installed : (result : Result ℕ ServiceFault) (Then : Type 0) → IfOk result (λ told. told ≡ 0) → (result ≡ Ok 0 → Then) → OnOk result Then
+on_installed (Ok told) Then zero then = then (ap (λ (n : ℕ). Ok n) zero)
+on_installed (Err fault) Then zero then = tt
+
+pub returns-in-Err-clause-edits : goal.returns-in-Err-clause-edits
+returns-in-Err-clause-edits g c = rw (← c.self.view_is) (λ installs edits shows honest. (
+  refl,
+  shows_on (service_view c.self.inside) _ _ _ edits refl refl refl
+      (ring_beside _ _ _ _ _ c.self.invariant.ring (c.write_sectors.ensures.beside honest)) shows,
+))
+
+pub returns-clause-edits : goal.returns-clause-edits
+returns-clause-edits g c = rw (← c.self.view_is) (λ installs edits shows honest. (
+  refl,
+  shows_on (service_view c.self.inside) _ _ _ edits refl refl refl
+      (ring_beside _ _ _ _ _ c.self.invariant.ring (c.write_sectors.ensures.beside honest)) shows,
+))
+
+pub returns-then-left-le-STEP_SECTORS-clause-edits : goal.returns-then-left-le-STEP_SECTORS-clause-edits
+returns-then-left-le-STEP_SECTORS-clause-edits g c = rw (← c.self.view_is, ← c.publication.view_is) (λ installs edits shows honest.
+    let service : ServiceView g.row.D.Denot = service_view c.self.inside in
+    let p : PublicationView = publication_view c.publication.inside in
+    let written = c.install_now.ensures.disk.was_honest honest in
+    let reads = ring_beside _ _ _ _ _ c.self.invariant.ring (c.write_sectors.ensures.beside written) in
+    c.install_now.ensures.edits (on_installed c.install_now.result _ c.install_now.ensures.told (λ is.
+    let up = installs is in (
+      up.0,
+      up_further _ _ _ _ up.0 service p (c.self.inside.root.generation + 1) (c.publication.inside.written + c.min-more.result) c.write_sectors.new.disk up.1
+          c.write_sectors.ensures.disk.same_count refl (c.write_sectors.ensures.keeps up.0 written (next_of _ _ up.1.generation_is) up.1.keeps)
+          (c.in-Ok.ensures.first written) reads,
+    ))) edits (shows_on service _ _ _ edits refl refl refl reads shows) honest)

@@ -117,7 +117,8 @@ returns-in-Step-clause-takes g c = (
   (step_step g.D.Sectors.sectors g.D.Sectors.honest g.D.Sectors.history _ _ c.publish_step.result
       c.publish_step.ensures.machine c.publish_step.ensures.size c.publish_step.ensures.touched c.publish_step.ensures.drafting
       c.publish_step.ensures.disk
-      c.publish_step.ensures.refused c.publish_step.ensures.any_moment c.publish_step.ensures.after c.publish_step.ensures.archive),
+      c.publish_step.ensures.refused c.publish_step.ensures.any_moment c.publish_step.ensures.after c.publish_step.ensures.archive
+      c.publish_step.ensures.edits),
 )
 
 pub returns-in-Step-clause-faults : goal.returns-in-Step-clause-faults

@@ -6,6 +6,7 @@ use Rattle.tile_service.proofs.Disk.Synced.{sync_leaves_stored, up_synced, sync_
 use Rattle.std.proofs.Common.{inl, inr, None, refl}
 use Rattle.tile_service.proofs.Archive.Unchanged.{shows_the_same, same_stays}
 use Rattle.tile_service.proofs.Publications.Steps.{service_on_disk, service_idle}
+use Rattle.tile_service.proofs.Edits.ShownEdits.{shows_on}
 use Rattle.tile_service.proofs.service.Service.check.Goals as goal
 
 pub returns-in-Ok-clause-any_moment : goal.returns-in-Ok-clause-any_moment
@@ -42,6 +43,23 @@ returns-then-self-clause-synced g c = λ honest. inl refl
 
 pub returns-then-self-clause-archive : goal.returns-then-self-clause-archive
 returns-then-self-clause-archive g c = shows_the_same g.D.Sectors.honest g.D.Sectors.history c.args.self.now c.args.self.now.publication
+
+pub returns-then-self-clause-edits : goal.returns-then-self-clause-edits
+returns-then-self-clause-edits g c = λ edits shows is_honest. (refl, shows)
+
+pub returns-in-Ok-clause-edits : goal.returns-in-Ok-clause-edits
+returns-in-Ok-clause-edits g c = rw (← c.self.view_is) (λ edits shows is_honest. (
+  refl,
+  shows_on (service_view c.self.inside) _ _ _ edits refl refl refl
+      (λ at inside. sync_seen _ _ (any_sync c.sync.result _ _ (c.sync.ensures.syncs is_honest)) at) shows,
+))
+
+pub returns-in-Err-clause-edits : goal.returns-in-Err-clause-edits
+returns-in-Err-clause-edits g c = rw (← c.self.view_is) (λ edits shows is_honest. (
+  refl,
+  shows_on (service_view c.self.inside) _ _ _ edits refl refl refl
+      (λ at inside. sync_seen _ _ (any_sync c.sync.result _ _ (c.sync.ensures.syncs is_honest)) at) shows,
+))
 
 pub returns-then-self-clause-any_moment : goal.returns-then-self-clause-any_moment
 returns-then-self-clause-any_moment g c = λ stored honest up. started (g.D.Sectors.history c.args.self.now.disk) _ up.keeps

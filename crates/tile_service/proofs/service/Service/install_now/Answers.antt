@@ -1,11 +1,13 @@
-use Rattle.std.proofs.Common.{inl, inr, ◌+◌, ◌%◌, length, refl, sym, ◌∙◌, ap, subst, arith}
+use Rattle.std.proofs.Common.{inl, inr, ◌+◌, ◌%◌, ◌++◌, length, refl, sym, ◌∙◌, ap, subst, arith}
 use Rattle.edit_journal.specs.Releases.{IsBehind}
 use Rattle.edit_journal.specs.declared.journal.Journal.{Journal}
 use Rattle.generations.specs.declared.root.Root.{Root}
 use Rattle.tile_service.specs.Inside.{service_view, publication_view}
-use Rattle.tile_service.specs.Service.{ServiceView, PublicationView}
-use Rattle.tile_service.proofs.Archive.Unchanged.{root_area, root_keeps}
+use Rattle.tile_service.specs.Service.{ServiceView, PublicationView, with_publication}
+use Rattle.tile_service.proofs.Archive.Unchanged.{root_area, root_keeps, ring_root}
+use Rattle.tile_service.proofs.Publications.Released.{shows_installed}
 use Rattle.tile_service.proofs.Publications.Steps.{next_root_is, installing_leaves, up_installed, service_on_disk, going_seen}
+use Rattle.tile_service.proofs.Edits.ShownEdits.{shows_on}
 use Rattle.tile_service.proofs.service.Service.install_now.Goals as goal
 
 pub returns-in-Ok-clause-any_moment : goal.returns-in-Ok-clause-any_moment
@@ -45,7 +47,15 @@ returns-in-Ok-clause-after g c = rw (← c.self.view_is) (λ stored honest up.
     up_installed _ _ stored service c.args.publication up c.requires.written root is _ _ _ c.install.ensures.disk.same_count (c.in-Ok.ensures.installed honest)
     refl refl refl refl refl (c.release.ensures.start.0 ∙ place) (c.release.ensures.start.1 ∙ edits) c.release.ensures.same.0
     (c.release.ensures.freed c.args.publication.places behind) c.release.ensures.same.1 text archive
-    (ap (λ s. s.publication) c.self.view_is ∙ c.requires.none) refl refl refl refl)
+    (ap (λ s. s.publication) c.self.view_is ∙ c.requires.none) refl refl refl refl
+    (shows_installed _ _ stored service c.args.publication up _ _ c.publication.inside.start
+    (ap (λ p. p.start) c.publication.view_is) refl c.release.ensures.same.0 refl (c.release.ensures.back c.self.inside.kept_journal c.self.invariant.back)
+    behind.numbers.1
+    (λ records count has le edits place below. c.release.ensures.older c.self.inside.kept_journal records count (g.D.Sectors.history c.self.inside.disk)
+    has le edits place below)
+    (ring_root _ (1 + (c.self.inside.root.generation + 1) % 2) _ _ _ c.self.invariant.ring (omega arith) (c.install.ensures.others honest))
+    (up.older ++ stored.since)
+    (shows_on (with_publication service c.args.publication) service _ _ (up.older ++ stored.since) refl refl refl (λ at inside. refl) up.shows)))
 
 pub returns-clause-any_moment : goal.returns-clause-any_moment
 returns-clause-any_moment g c = rw (← c.self.view_is) (λ stored honest up.
@@ -129,3 +139,29 @@ returns-in-Ok-clause-touched g c = ap (λ s. s.touched) c.self.view_is
 
 pub returns-clause-touched : goal.returns-clause-touched
 returns-clause-touched g c = ap (λ s. s.touched) c.self.view_is
+
+pub returns-in-Ok-clause-edits : goal.returns-in-Ok-clause-edits
+returns-in-Ok-clause-edits g c = rw (← c.self.view_is) (λ installed edits shows honest.
+    let stored = installed.0 in
+    let up = installed.1 in
+    let service : ServiceView g.row.D.Denot = service_view c.self.inside in
+    let behind : IsBehind c.self.inside.journal c.publication.inside.start c.args.publication.places =
+    subst (λ (p : PublicationView). IsBehind c.self.inside.journal p.start c.args.publication.places) (sym c.publication.view_is)
+    (subst (λ (j : Journal). IsBehind j c.args.publication.start c.args.publication.places) (sym (ap (λ s. s.journal) c.self.view_is))
+    c.requires.going.2.behind) in (
+      refl,
+      shows_installed _ _ stored service c.args.publication up _ _ c.publication.inside.start
+          (ap (λ p. p.start) c.publication.view_is) refl c.release.ensures.same.0 refl (c.release.ensures.back c.self.inside.kept_journal c.self.invariant.back)
+          behind.numbers.1
+          (λ records count has le edits place below. c.release.ensures.older c.self.inside.kept_journal records count (g.D.Sectors.history c.self.inside.disk)
+          has le edits place below)
+          (ring_root _ (1 + (c.self.inside.root.generation + 1) % 2) _ _ _ c.self.invariant.ring (omega arith) (c.install.ensures.others honest))
+          edits shows,
+    ))
+
+pub returns-clause-edits : goal.returns-clause-edits
+returns-clause-edits g c = rw (← c.self.view_is) (λ installed edits shows honest. (
+  refl,
+  shows_on (service_view c.self.inside) _ _ _ edits refl refl refl
+      (ring_root _ (1 + (c.self.inside.root.generation + 1) % 2) _ _ _ c.self.invariant.ring (omega arith) (c.install.ensures.others honest)) shows,
+))

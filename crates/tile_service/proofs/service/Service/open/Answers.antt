@@ -1,5 +1,6 @@
 use Rattle.std.proofs.Common.{None, false, take, refl}
 use Rattle.sector_disk.specs.Disk.{seen}
+use Rattle.edit_journal.proofs.Kept.{goes_back_self}
 use Rattle.tile_service.specs.Runs.{fitting}
 use Rattle.tile_service.proofs.Disk.Opened.{opens, no_other_fault, read_sound}
 use Rattle.tile_service.proofs.Runs.Headlines.{was_left, opens_to_first}
@@ -18,6 +19,7 @@ returns-in-Ok-clause-opened g c n stored holds honest =
       touched = c.in-Ok.found.map.touched;
       kept = c.in-Ok.found.map.kept;
       journal = c.in-Ok.found.journal;
+      kept_journal = c.in-Ok.found.journal;
       generation = c.in-Ok.found.root.generation;
       snapshot_len = c.in-Ok.found.root.snapshot_len;
       archive_len = c.in-Ok.found.root.archive_len;
@@ -26,7 +28,7 @@ returns-in-Ok-clause-opened g c n stored holds honest =
       published = c.in-Ok.found.published;
       broken = false;
     })
-    c.in-Ok.found.root refl c.load.ensures.disk.same_count (c.in-Ok.ensures.synced honest) refl refl refl refl refl refl c.in-Ok.ensures.ring
+    c.in-Ok.found.root refl c.load.ensures.disk.same_count (c.in-Ok.ensures.synced honest) refl refl refl refl refl refl refl c.in-Ok.ensures.ring
     (c.in-Ok.ensures.found honest)
     c.in-Ok.ensures.published c.in-Ok.ensures.reads
 
@@ -91,6 +93,7 @@ invariant_of-result g c = record {
   texts = c.in-Ok.ensures.texts;
   counted = c.in-Ok.ensures.counted;
   last_is = c.in-Ok.ensures.last;
+  back = goes_back_self c.in-Ok.found.journal;
   going = tt;
   told = tt;
   as_of = tt;

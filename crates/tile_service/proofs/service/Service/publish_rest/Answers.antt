@@ -22,7 +22,7 @@ loop-rest-init g c =
     let outcome : Result ℕ ServiceFault = Ok c.in-Ok.told in
     let goes : Takes g.D.Sectors.sectors g.D.Sectors.honest g.D.Sectors.history old (step outcome) new =
     step_step g.D.Sectors.sectors g.D.Sectors.honest g.D.Sectors.history old new outcome
-    call.machine call.size call.touched call.drafting call.disk call.refused call.any_moment call.after call.archive in
+    call.machine call.size call.touched call.drafting call.disk call.refused call.any_moment call.after call.archive call.edits in
     let more = one_more_step g.D.Sectors.sectors g.D.Sectors.honest g.D.Sectors.history old old new [] outcome
     (run_begins g.D.Sectors.sectors g.D.Sectors.honest g.D.Sectors.history old) refl goes in
     let moved = call.machine no_known in
@@ -48,7 +48,7 @@ loop-rest-preserved g c =
     let outcome : Result ℕ ServiceFault = Ok c.in-Ok-publish_step.told in
     let goes : Takes g.D.Sectors.sectors g.D.Sectors.honest g.D.Sectors.history old (step outcome) new =
     step_step g.D.Sectors.sectors g.D.Sectors.honest g.D.Sectors.history old new outcome
-    call.machine call.size call.touched call.drafting call.disk call.refused call.any_moment call.after call.archive in
+    call.machine call.size call.touched call.drafting call.disk call.refused call.any_moment call.after call.archive call.edits in
     let more = one_more_step g.D.Sectors.sectors g.D.Sectors.honest g.D.Sectors.history c.args.self.now old new (inv.run.0 ++ Ok rest ∷ []) outcome
     inv.run.1 inv.run.2 goes in
     let known = inv.stands.0 in
@@ -87,7 +87,7 @@ returns-in-Err-clause-run g c =
     let outcome : Result ℕ ServiceFault = Err c.in-Err.fault in
     let goes : Takes g.D.Sectors.sectors g.D.Sectors.honest g.D.Sectors.history old (step outcome) new =
     step_step g.D.Sectors.sectors g.D.Sectors.honest g.D.Sectors.history old new outcome
-    call.machine call.size call.touched call.drafting call.disk call.refused call.any_moment call.after call.archive in
+    call.machine call.size call.touched call.drafting call.disk call.refused call.any_moment call.after call.archive call.edits in
     let more = one_more_step g.D.Sectors.sectors g.D.Sectors.honest g.D.Sectors.history old old new [] outcome
     (run_begins g.D.Sectors.sectors g.D.Sectors.honest g.D.Sectors.history old) refl goes in
     rw (← c.go_on.ensures) (record {
@@ -134,7 +134,7 @@ returns-in-Err-publish_step-clause-run g c =
     let outcome : Result ℕ ServiceFault = Err c.in-Err-publish_step.fault in
     let goes : Takes g.D.Sectors.sectors g.D.Sectors.honest g.D.Sectors.history old (step outcome) new =
     step_step g.D.Sectors.sectors g.D.Sectors.honest g.D.Sectors.history old new outcome
-    call.machine call.size call.touched call.drafting call.disk call.refused call.any_moment call.after call.archive in
+    call.machine call.size call.touched call.drafting call.disk call.refused call.any_moment call.after call.archive call.edits in
     let more = one_more_step g.D.Sectors.sectors g.D.Sectors.honest g.D.Sectors.history c.args.self.now old new (inv.run.0 ++ Ok rest ∷ []) outcome
     inv.run.1 inv.run.2 goes in
     record {

@@ -10,6 +10,7 @@ use Rattle.tile_service.specs.declared.fault.ServiceFault.TheVariants.{Broken, I
 use Rattle.tile_service.proofs.Runs.DeviceFaults.{other_fault}
 use Rattle.tile_service.proofs.Archive.Unchanged.{keeps_on, shows_the_same}
 use Rattle.tile_service.proofs.Publications.Steps.{service_idle, tells_device, no_other_fault}
+use Rattle.tile_service.proofs.Edits.ShownEdits.{shows_on}
 use Rattle.tile_service.proofs.service.Service.publish_step.Goals as goal
 
 pub returns-in-None-clause-any_moment : goal.returns-in-None-clause-any_moment
@@ -164,3 +165,21 @@ returns-in-None-clause-drafting g c = inl (ap (λ s. s.drafting) c.self.view_is)
 pub returns-in-Some-clause-drafting : goal.returns-in-Some-clause-drafting
 returns-in-Some-clause-drafting g c =
     subst (λ o. KeepsDraft o c.advance.new.self.drafting) (ap (λ s. s.drafting) c.self.view_is) c.advance.ensures.drafting
+
+-- ---- the edits that it shows
+
+pub returns-then-self-clause-edits : goal.returns-then-self-clause-edits
+returns-then-self-clause-edits g c = λ installs edits shows honest. (refl, shows)
+
+pub returns-in-None-clause-edits : goal.returns-in-None-clause-edits
+returns-in-None-clause-edits g c = rw (← c.self.view_is) (λ installs edits shows honest.
+    (refl, shows_on (service_view c.self.inside) _ _ _ edits refl refl refl (λ at inside. refl) shows))
+
+pub returns-in-Some-clause-edits : goal.returns-in-Some-clause-edits
+returns-in-Some-clause-edits g c = rw (← c.self.view_is) (λ installs edits shows honest. c.advance.ensures.edits
+    (λ is. let up = installs is in (
+      up.0,
+      subst (λ s. IsUp (g.D.Sectors.sectors s.disk) (g.D.Sectors.history s.disk) up.0 s) (sym (with_it g c)) up.1,
+    )) edits
+    (shows_on (service_view c.self.inside) (service_view (record c.self.inside { publication = c.take.new.self })) _ _ edits refl refl refl
+    (λ at inside. refl) shows) honest)
