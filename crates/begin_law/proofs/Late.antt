@@ -1,5 +1,5 @@
 -- Calls that were made while a publication was in the making are calls made while it was under way.
-use Rattle.std.proofs.Common.{◌≡◌, ◌<◌, ◌≤◌, ◌+◌, ◌^◌, ℕ, suc, List, [], ◌∷◌, length, Option, Some, None, Result, Ok, Err, refl, sym, ap, subst, ◌∙◌}
+use Rattle.std.proofs.Common.{◌≡◌, ◌<◌, ◌≤◌, ◌+◌, ◌^◌, ℕ, suc, List, [], ◌∷◌, ◌++◌, length, drop, Option, Some, None, Result, Ok, Err, refl, sym, ap, subst, ◌∙◌}
 use Rattle.std.proofs.lemmas.Bool.{false≢true}
 use Rattle.std.specs.Option.{is_some, option_map}
 use Rattle.sector_disk.specs.Disk.{History}
@@ -12,14 +12,14 @@ use Rattle.tile_service.specs.declared.fault.ServiceFault.TheVariants.{TooManyTi
 use Rattle.tile_service.specs.Machine.{ServiceState, Publication, Happening, Happens, AnswersEdit, AnswersCheck, OrMemory, got, no_memory, IfTold, Call}
 use Rattle.tile_service.specs.Machine.{edit, begin, step, cancel, check, tile, tile_number, look, look_from, metadata, read, list_edits}
 use Rattle.tile_service.specs.Drafted.{DraftedView, IsDrafted}
-use Rattle.tile_service.specs.Listing.{ShowsEdits}
 use Rattle.tile_service.specs.Publishing.{map_at}
-use Rattle.tile_service.specs.Runs.{Takes, TakesAll, IsTrusted, ChangesOnly, CachesOnly}
-use Rattle.tile_service.specs.Service.{PublicationView, ServiceView, Known, IsUp, Publishes, EventLeaves}
+use Rattle.tile_service.specs.Runs.{edits_by, Takes, TakesAll, IsTrusted, ChangesOnly, CachesOnly}
+use Rattle.tile_service.specs.Service.{PublicationView, ServiceView, Known, ShowsEdits, IsUp, Publishes, EventLeaves}
 use Rattle.tile_service.specs.Service.{state_of, known_after, stored_after, going_of, count_at, with_publication}
 use Rattle.tile_service.specs.Stored.{Stored, with_edit}
 use Rattle.tile_service.specs.Tags.{IsNumbered}
 use Rattle.tile_service.proofs.Edits.EditStored.{drafted_on}
+use Rattle.tile_service.proofs.Edits.ShownEdits.{shows_on}
 use Rattle.tile_service.proofs.Publications.Drafts.{drafted_publishes}
 use Rattle.tile_service.proofs.Publications.Steps.{up_with}
 use Rattle.begin_law.specs.Beside.{IsBeside, AreBeside, publishing}
@@ -218,7 +218,10 @@ module _ {D : Type 0} (sectors : D → ℕ) (honest : D → Type 0) (history : D
 
   -- what is listed and what is told of a tile's number doesn't depend on it
   shows_bare : (h : History) (s : ServiceView D) (edits : List RecordedEdit) → ShowsEdits h (with_it s) edits → ShowsEdits h s edits
-  shows_bare h s edits shows = record { records = shows.records; are_edits = shows.are_edits }
+  shows_bare h s edits shows = shows_on (with_it s) s h h edits refl refl refl (λ at inside. refl) shows
+
+  shows_with : (h : History) (s : ServiceView D) (edits : List RecordedEdit) → ShowsEdits h s edits → ShowsEdits h (with_it s) edits
+  shows_with h s edits shows = shows_on s (with_it s) h h edits refl refl refl (λ at inside. refl) shows
 
   numbered_beside : (happening : Happening) (s : ServiceView D) → IsNumbered s happening → IsNumbered (with_it s) happening
   numbered_beside (tile_number z x y number) s told = record { is = told.is; most = told.most; knows = told.knows }
@@ -241,6 +244,15 @@ module _ {D : Type 0} (sectors : D → ℕ) (honest : D → Type 0) (history : D
         known old new happening (trusted_bare old new none) b (t.machine known);
     archive = t.archive;
     listed = λ edits shows. t.listed edits (shows_bare (history old.disk) old edits shows);
+    shows = λ edits shows is_honest installs.
+        let still = t.shows edits (shows_bare (history old.disk) old edits shows) is_honest (λ is. absurd (subst IsBeside is b)) in
+        record {
+          count = still.count;
+          within = still.within;
+          forgotten = still.forgotten;
+          shows = shows_with (history new.disk) new (drop still.count edits ++ edits_by happening) still.shows;
+          full = still.full;
+        };
     keeps_archive = λ other. let k = t.keeps_archive other in record {
       generation = k.generation;
       snapshot_len = k.snapshot_len;

@@ -1,27 +1,25 @@
 -- What a port listed is in every image from then on.
-use Rattle.std.proofs.Common.{◌≡◌, ◌⊎◌, inl, inr, ⊎_elim, ℕ, zero, suc, ◌<◌, ◌≤◌, ◌+◌, ◌-◌, List, [], ◌∷◌, ◌++◌, length, map, take, drop}
-use Rattle.std.proofs.Common.{true, false, Option, Ok, refl, sym, ◌∙◌, ap, subst, arith, append_assoc}
+use Rattle.std.proofs.Common.{◌≡◌, ◌⊎◌, inl, inr, ⊎_elim, ℕ, zero, suc, ◌<◌, ◌≤◌, ◌+◌, ◌-◌, List, [], ◌∷◌, ◌++◌, length, length-append, length-drop, map, take, drop}
+use Rattle.std.proofs.Common.{false, Option, Ok, refl, sym, ◌∙◌, ap, subst, arith, append_assoc}
 use Rattle.std.proofs.lemmas.Bool.{cases_lt}
-use Rattle.std.proofs.lemmas.List.{append-nil, drop-append-le, take-append-le, take_all, take-take, take_more, take-map, drop-drop, drop_all, get_or-take}
-use Rattle.sector_disk.specs.Asked.{OnlyReads}
+use Rattle.std.proofs.lemmas.List.{append-nil, drop-append-le, take-append-le, take-take, take_more, take-map, drop-drop, drop_all, get_or-take}
 use Rattle.sector_disk.specs.Disk.{History, Image, moment, LeftSince, seen}
-use Rattle.edit_journal.specs.Lists.{HasRecords, first_bytes}
+use Rattle.edit_journal.specs.Lists.{first_bytes}
 use Rattle.edit_journal.specs.Records.{RecordData}
 use Rattle.edit_text.specs.Recorded.{RecordedEdit}
 use Rattle.tile_service.specs.Headline.{HasSomeFirst}
 use Rattle.tile_service.specs.KeptEdits.{AreNumbered, IsListed, HasListed, KeepsListed}
-use Rattle.tile_service.specs.Listing.{ShowsEdits, ListsFrom, listed_from}
-use Rattle.tile_service.specs.Machine.{no_memory, ServiceState, Happening, edit, begin, step, cancel, look, Happens}
-use Rattle.tile_service.specs.Runs.{edits_by, happening_at, all_edits, published_by, way_of, Way, Progress, starts, progress_after, progress_of, AreEditsOf}
+use Rattle.tile_service.specs.Listing.{ListsFrom}
+use Rattle.tile_service.specs.Machine.{no_memory, ServiceState, Happening, step, look, list_edits, Happens}
+use Rattle.tile_service.specs.Runs.{edits_by, waiting_by, happening_at, all_edits, way_of, Way, AreEditsOf}
 use Rattle.tile_service.specs.Runs.{ImageFits, fitting, IsTrusted, Takes}
-use Rattle.tile_service.specs.Service.{ServiceView, IsUp, state_of, known_after}
+use Rattle.tile_service.specs.Service.{ServiceView, ShowsEdits, StillShows, IsUp, state_of, known_after}
 use Rattle.tile_service.specs.Stored.{Stored, Holds, record_for}
-use Rattle.tile_service.proofs.Archive.StillShown.{not_installed, still_shown}
-use Rattle.tile_service.proofs.Edits.ListedEdits.{up_shows}
-use Rattle.tile_service.proofs.Runs.Callers.{HasRun, IsUpAfter, run_begins, run_on}
+use Rattle.tile_service.proofs.Edits.ShownEdits.{shows_on, older_count, drop_first}
+use Rattle.tile_service.proofs.Runs.Callers.{HasRun, run_begins, run_on}
 use Rattle.tile_service.proofs.Runs.Headlines.{opens_to_first}
-use Rattle.tile_service.proofs.Runs.OneEvent.{no_known, clash, true_or_false}
-use Rattle.tile_service.proofs.Runs.Progress.{all_edits_on, progress_on, all_split_at, all_of_more}
+use Rattle.tile_service.proofs.Runs.OneEvent.{no_known}
+use Rattle.tile_service.proofs.Runs.Progress.{all_edits_on, all_split_at, all_of_more}
 use Rattle.begin_law.specs.Moments.{WasRead, TakesBetweenReads, WasStoppedBetweenReads}
 use Rattle.begin_law.proofs.OverReads.{run_reads}
 
@@ -72,90 +70,69 @@ module _ (records : List RecordData) where
       ∙ take-map record_for (length records) (drop count (drop j edits))
       ∙ ap (λ (l : List RecordedEdit). map record_for (take (length records) l)) (drop-drop count j edits)
 
--- ---- a call after which the service is broken
-
--- no edit is acknowledged, and nothing is installed
-record AcknowledgesNothing (h : Happening) : Type 0 where
-  pub edits : edits_by h ≡ []
-  pub published : (p : Progress) → (progress_after p h).published ≡ p.published
-
-breaks_quiet : (trusted : Type 0) (old new : ServiceState) (h : Happening) → Happens trusted old h new → new.broken ≡ true → AcknowledgesNothing h
-breaks_quiet trusted old new (edit call e (Ok number)) goes broken =
-    absurd (clash new.broken (ap (λ (s : ServiceState). s.broken) goes.made ∙ goes.unbroken) broken)
-breaks_quiet trusted old new (begin (Ok left)) goes broken = record { edits = refl; published = λ p. refl }
-breaks_quiet trusted old new (step (Ok left)) (way, inl w) broken =
-    absurd (clash new.broken (ap (λ (s : ServiceState). s.broken) w.2 ∙ way.unbroken) broken)
-breaks_quiet trusted old new (step (Ok left)) (way, inr w) broken =
-    absurd (clash new.broken (ap (λ (s : ServiceState). s.broken) w.2 ∙ way.unbroken) broken)
-breaks_quiet trusted old new (cancel (Ok done)) goes broken = record { edits = refl; published = λ p. refl }
-breaks_quiet trusted old new h goes broken = record { edits = refl; published = λ p. refl }
-
 -- ---- the edits that a service shows in a run
 
 module _ {D : Type 0} (sectors : D → ℕ) (honest : D → Type 0) (history : D → History) where
-  -- After some happenings it shows the run's edits after the published ones, a broken one too.
-  record ShowsRun (start : Stored) (way : Option Way) (events : List Happening) (now : ServiceView D) : Type 0 where
-    pub edits_are : now.journal.edits ≡ start.edits + published_by start way events
-    pub shows : ShowsEdits (history now.disk) now (drop (published_by start way events) (all_edits start events))
+  -- After some happenings it shows the last of the edits that it showed before the run and of the run's edits, a broken one too.
+  record ShowsRun (start : Stored) (older : List RecordedEdit) (base : ℕ) (events : List Happening) (now : ServiceView D) : Type 0 where
+    pub count : ℕ
+    pub within : count ≤ length (older ++ all_edits start events)
+    pub forgotten : now.kept_journal.edits ≡ base + count
+    pub shows : ShowsEdits (history now.disk) now (drop count (older ++ all_edits start events))
 
-  shows_up : (old now : ServiceView D) (start : Stored) (events : List Happening) → IsUpAfter sectors honest history old events now start
-      → ShowsRun start (way_of start.edits old.publication) events now
-  shows_up old now start events after =
-      let way : Option Way = way_of start.edits old.publication in
-      let edits : List RecordedEdit = all_edits start events in
-      let is : after.reached ≡ fitting start edits (length edits) (published_by start way events) after.reaches.0 after.reaches.1 after.reaches.2 =
-      after.reaches.3 in
-      record {
-        edits_are = after.is_up.edits_are ∙ ap (λ (s : Stored). s.edits) is;
-        shows = subst (ShowsEdits (history now.disk) now)
-            (ap (λ (s : Stored). s.since) is
-            ∙ ap (λ (l : List RecordedEdit). drop (published_by start way events) l) (take_all (length edits) edits (omega arith)))
-            (up_shows sectors history after.reached now after.is_up.ring_is after.is_up);
-      }
+  -- a step is made by a service that isn't broken
+  step_unbroken : (trusted : Type 0) (old new : ServiceState) → Happens trusted old (step (Ok 0)) new → old.broken ≡ false
+  step_unbroken trusted old new (way, w) = way.unbroken
 
   -- one happening more
-  shows_on : (old now new : ServiceView D) (start : Stored) (events : List Happening) (event : Happening) → HasRun sectors honest history old events now
-      → Takes sectors honest history now event new → honest new.disk → IsUp (sectors old.disk) (history old.disk) start old
-      → ShowsRun start (way_of start.edits old.publication) events now → ShowsRun start (way_of start.edits old.publication) (events ++ event ∷ []) new
-  shows_on old now new start events event so goes is_honest up shown = ⊎_elim
-      (λ (broken : new.broken ≡ true).
-      let quiet = breaks_quiet (IsTrusted sectors honest history now new) (state_of no_known now) (state_of (known_after no_known now event) new) event
-      (goes.machine no_known) broken in
-      let same : all_edits start (events ++ event ∷ []) ≡ all_edits start events =
-      all_edits_on start events event ∙ ap (λ (l : List RecordedEdit). all_edits start events ++ l) quiet.edits ∙ append-nil (all_edits start events) in
-      let way : Option Way = way_of start.edits old.publication in
-      let published : published_by start way (events ++ event ∷ []) ≡ published_by start way events =
-      ap (λ (p : Progress). p.published) (progress_on (starts start way) events event) ∙ quiet.published (progress_of (starts start way) events) in
-      let kept = goes.keeps_archive (not_installed sectors honest history now new event goes broken) in
+  shows_next : (old now new : ServiceView D) (start : Stored) (older : List RecordedEdit) (base : ℕ) (events : List Happening) (event : Happening)
+      → HasRun sectors honest history old events now → Takes sectors honest history now event new → honest new.disk
+      → IsUp (sectors old.disk) (history old.disk) start old
+      → ShowsRun start older base events now → ShowsRun start older base (events ++ event ∷ []) new
+  shows_next old now new start older base events event so goes is_honest up shown =
+      let xs : List RecordedEdit = older ++ all_edits start events in
+      let went : StillShows (history new.disk) now new (drop shown.count xs) (edits_by event) (waiting_by event) =
+      goes.shows (drop shown.count xs) shown.shows is_honest (λ is.
+      let was : now.broken ≡ false = step_unbroken (IsTrusted sectors honest history now new) (state_of no_known now)
+      (state_of (known_after no_known now (step (Ok 0))) new)
+      (subst (λ (x : Happening). Happens (IsTrusted sectors honest history now new) (state_of no_known now) x
+      (state_of (known_after no_known now x) new)) is (goes.machine no_known)) in
+      let after = so.up start (goes.asked.was_honest is_honest) up was in
+      (after.reached, after.is_up)) in
+      let all : older ++ all_edits start (events ++ event ∷ []) ≡ xs ++ edits_by event =
+      ap (λ (l : List RecordedEdit). older ++ l) (all_edits_on start events event) ∙ sym (append_assoc older (all_edits start events) (edits_by event)) in
+      let fits : shown.count + went.count ≤ length xs = omega (arith, went.within, shown.within, length-drop shown.count xs) in
       record {
-        edits_are = kept.journal.stays.edits ∙ shown.edits_are ∙ ap (λ (n : ℕ). start.edits + n) (sym published);
-        shows = subst (ShowsEdits (history new.disk) new) (λ i. drop (sym published i) (sym same i))
-            (still_shown sectors honest history now new event goes broken (drop (published_by start way events) (all_edits start events))
-            shown.shows is_honest);
-      })
-      (λ (unbroken : new.broken ≡ false).
-      shows_up old new start (events ++ event ∷ [])
-      ((run_on sectors honest history old now new events event so goes).up start is_honest up unbroken))
-      (true_or_false new.broken)
+        count = shown.count + went.count;
+        within = omega (arith, fits, ap length all, length-append xs (edits_by event));
+        forgotten = omega (arith, went.forgotten, shown.forgotten);
+        shows = subst (ShowsEdits (history new.disk) new)
+            (ap (λ (l : List RecordedEdit). l ++ edits_by event) (drop-drop went.count shown.count xs)
+            ∙ sym (drop-append-le (shown.count + went.count) xs (edits_by event) fits)
+            ∙ ap (drop (shown.count + went.count)) (sym all)) went.shows;
+      }
 
   -- a read more
-  shows_read : (start : Stored) (way : Option Way) (events : List Happening) (now new : ServiceView D) → WasRead sectors honest history now new
-      → honest new.disk → ShowsRun start way events now → ShowsRun start way events new
-  shows_read start way events now new read is_honest shown =
-      let edits : List RecordedEdit = drop (published_by start way events) (all_edits start events) in
-      let then : ShowsEdits (history new.disk) (record now { disk = new.disk; drafting = new.drafting; published = new.published }) edits = record {
-        records = subst (HasRecords (map record_for edits) now.journal) (sym (read.disk.same_history is_honest)) shown.shows.records;
-        are_edits = shown.shows.are_edits;
-      } in
+  shows_read : (start : Stored) (older : List RecordedEdit) (base : ℕ) (events : List Happening) (now new : ServiceView D)
+      → WasRead sectors honest history now new → honest new.disk → ShowsRun start older base events now → ShowsRun start older base events new
+  shows_read start older base events now new read is_honest shown =
+      let edits : List RecordedEdit = drop shown.count (older ++ all_edits start events) in
       record {
-        edits_are = ap (λ (s : ServiceView D). s.journal.edits) read.same ∙ shown.edits_are;
-        shows = subst (λ (s : ServiceView D). ShowsEdits (history new.disk) s edits) (sym read.same) then;
+        count = shown.count;
+        within = shown.within;
+        forgotten = ap (λ (s : ServiceView D). s.kept_journal.edits) read.same ∙ shown.forgotten;
+        shows = shows_on now new (history now.disk) (history new.disk) edits (ap (λ (s : ServiceView D). s.kept_journal) read.same)
+            (ap (λ (s : ServiceView D). s.journal) read.same) (ap (λ (s : ServiceView D). s.version) read.same)
+            (λ at inside. ap (λ (h : History). seen h at) (read.disk.same_history is_honest)) shown.shows;
       }
 
   -- ---- each state of a run
 
   module _ (old new : ServiceView D) (start : Stored) (happenings : List Happening) (run : TakesBetweenReads sectors honest history old happenings new)
       (is_honest : honest new.disk) (up : IsUp (sectors old.disk) (history old.disk) start old) where
+    abbrev older : List RecordedEdit
+    older = up.older
+
     abbrev way : Option Way
     way = way_of start.edits old.publication
 
@@ -178,20 +155,24 @@ module _ {D : Type 0} (sectors : D → ℕ) (honest : D → Type 0) (history : D
     one_more_taken k lt = let next : suc k ≡ k + 1 = omega arith in ap (λ (n : ℕ). take n happenings) next ∙ take_more happenings k (look 0 no_memory) lt
 
     abbrev Reached : (k : ℕ) → ServiceView D → Type 0
-    Reached k now = HasRun sectors honest history old (take k happenings) now × ShowsRun start way (take k happenings) now
+    Reached k now = HasRun sectors honest history old (take k happenings) now × ShowsRun start older old.kept_journal.edits (take k happenings) now
 
     read_from : (k : ℕ) → k ≤ length happenings → Reached k (run.at k) → Reached k (run.from k)
     read_from k le before = let read = run.reads k le in (
       run_reads sectors honest history old (run.at k) (run.from k) (take k happenings) before.0 read.same read.disk read.up,
-      shows_read start way (take k happenings) (run.at k) (run.from k) read (honest_from k le) before.1,
+      shows_read start older old.kept_journal.edits (take k happenings) (run.at k) (run.from k) read (honest_from k le) before.1,
     )
 
     -- how each state was reached, and the edits that it shows
     reached_at : (k : ℕ) → k ≤ length happenings → Reached k (run.at k)
     reached_at zero le = (
       subst (HasRun sectors honest history old []) (sym run.begins) (run_begins sectors honest history old),
-      subst (ShowsRun start way []) (sym run.begins)
-          (shows_up old old start [] ((run_begins sectors honest history old).up start honest_first up up.unbroken)),
+      subst (ShowsRun start older old.kept_journal.edits []) (sym run.begins) (record {
+        count = 0;
+        within = omega arith;
+        forgotten = omega arith;
+        shows = subst (λ (l : List RecordedEdit). ShowsEdits (history old.disk) old (older ++ l)) (sym (append-nil start.since)) up.shows;
+      }),
     )
     reached_at (suc k) le =
         let before = read_from k (omega (arith, le)) (reached_at k (omega (arith, le))) in
@@ -199,34 +180,36 @@ module _ {D : Type 0} (sectors : D → ℕ) (honest : D → Type 0) (history : D
         let is = one_more_taken k (omega (arith, le)) in (
           subst (λ (l : List Happening). HasRun sectors honest history old l (run.at (suc k))) (sym is)
               (run_on sectors honest history old (run.from k) (run.at (suc k)) (take k happenings) (happening_at happenings k) before.0 goes),
-          subst (λ (l : List Happening). ShowsRun start way l (run.at (suc k))) (sym is)
-              (shows_on old (run.from k) (run.at (suc k)) start (take k happenings) (happening_at happenings k) before.0 goes
+          subst (λ (l : List Happening). ShowsRun start older old.kept_journal.edits l (run.at (suc k))) (sym is)
+              (shows_next old (run.from k) (run.at (suc k)) start older old.kept_journal.edits (take k happenings) (happening_at happenings k) before.0 goes
               (honest_at (suc k) le) up before.1),
         )
 
     -- What a call listed was acknowledged before it.
     pub listed_acknowledged : (index number : ℕ) (records : List RecordData) → index < length happenings
-        → IsListed start way happenings index number records → AreNumbered start number records (all_edits start (take index happenings))
+        → IsListed start happenings index number records → AreNumbered start number records (all_edits start (take index happenings))
     listed_acknowledged index number records lt listed =
         let shown = (read_from index (omega (arith, lt)) (reached_at index (omega (arith, lt)))).1 in
-        let j : ℕ = published_by start way (take index happenings) in
         let edits : List RecordedEdit = all_edits start (take index happenings) in
-        let found : records ≡ listed_from (run.from index).journal.edits (drop j edits) number listed.bytes =
-        subst (ListsFrom (run.from index).journal.edits (drop j edits)) listed.is
-        ((run.takes index lt).listed (drop j edits) shown.shows (honest_at (suc index) (omega (arith, lt)))) in
-        subst (λ (count : ℕ). records ≡ map record_for (take (length records) (drop count edits)))
-        (omega (arith, shown.edits_are, listed.after))
-        (there_of_all records edits j listed.bytes (number - ((run.from index).journal.edits + 1)) found)
+        let forgotten : ℕ = (run.from index).kept_journal.edits in
+        let found : ListsFrom forgotten (drop shown.count (older ++ edits)) (list_edits number listed.bytes (Ok records)) =
+        subst (ListsFrom forgotten (drop shown.count (older ++ edits))) listed.is
+        ((run.takes index lt).listed (drop shown.count (older ++ edits)) shown.shows (honest_at (suc index) (omega (arith, lt)))) in
+        let there = there_of_all records (older ++ edits) shown.count listed.bytes (number - (forgotten + 1)) found.1 in
+        let behind : shown.count + (number - (forgotten + 1)) ≡ length older + (number - (start.edits + 1)) =
+        omega (arith, shown.forgotten, found.0, listed.after, older_count (sectors old.disk) (history old.disk) start old up) in
+        there ∙ ap (λ (l : List RecordedEdit). map record_for (take (length records) l))
+        (ap (λ (n : ℕ). drop n (older ++ edits)) behind ∙ drop_first older edits (number - (start.edits + 1)))
 
     -- So it is among the first edits of an image from then on.
     pub listed_stays : (k m : ℕ) → k ≤ m → m ≤ length happenings → (count : ℕ) (image : Image)
-        (fits : ImageFits count old.size start way (take m happenings) k image) → HasListed start way (take m happenings) k (take fits.i fits.edits)
+        (fits : ImageFits count old.size start way (take m happenings) k image) → HasListed start (take m happenings) k (take fits.i fits.edits)
     listed_stays k m order within count image fits index number records lt listed =
         let here : take index (take m happenings) ≡ take index happenings = take-take index m happenings (omega (arith, lt, order)) in
-        let then_listed : IsListed start way happenings index number records = record {
+        let then_listed : IsListed start happenings index number records = record {
           bytes = listed.bytes;
           is = sym (get_or-take m happenings index (look 0 no_memory) (omega (arith, lt, order))) ∙ listed.is;
-          after = subst (λ (l : List Happening). start.edits + published_by start way l < number) here listed.after;
+          after = listed.after;
         } in
         let first : List RecordedEdit = all_edits start (take index (take m happenings)) in
         let more = edits_split (take m happenings) index fits.edits fits.are_edits in

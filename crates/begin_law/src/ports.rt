@@ -19,7 +19,7 @@ pub fn port_keeps_what_it_listed<D: Sectors>()
     ensures acknowledged { (start : Stored) (old new : ServiceView D) (happenings : List Happening)
         → TakesBetweenReads D.sectors D.honest D.history old happenings new → D.honest new.disk → IsUp (D.sectors old.disk) (D.history old.disk) start old
         → (index number : ℕ) (records : List RecordData) → index < length happenings
-        → IsListed start (way_of start.edits old.publication) happenings index number records
+        → IsListed start happenings index number records
         → AreNumbered start number records (all_edits start (take index happenings)) }
     ensures kept { (start : Stored) (old new : ServiceView D) (happenings : List Happening)
         (run : TakesBetweenReads D.sectors D.honest D.history old happenings new) → D.honest new.disk → IsUp (D.sectors old.disk) (D.history old.disk) start old
