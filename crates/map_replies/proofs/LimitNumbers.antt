@@ -18,8 +18,8 @@ page_bytes_are = refl
 max_text_is : MAX_TEXT ≡ 95
 max_text_is = refl
 
-max_part_is : MAX_PART ≡ 100
+max_part_is : MAX_PART ≡ 104
 max_part_is = refl
 
-max_status_is : MAX_STATUS ≡ 701
+max_status_is : MAX_STATUS ≡ 729
 max_status_is = refl

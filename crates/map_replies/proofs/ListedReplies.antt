@@ -15,7 +15,7 @@ use Rattle.map_replies.specs.declared.fault.RequestFault.{RequestFault}
 use Rattle.map_replies.specs.declared.feed.TheConstants.{FEED_BYTES}
 
 module _ {D : Type 0} (sectors : D → ℕ) (honest : D → Type 0) (history : D → History) (failed : Type 0) (old new : ServiceView D) (number : ℕ)
-    (outcome : Result (List RecordData) JournalFault) (above : old.journal.edits < number) (within : number ≤ old.journal.last + 1)
+    (outcome : Result (List RecordData) JournalFault) (above : old.kept_journal.edits < number) (within : number ≤ old.journal.last + 1)
     (takes : Takes sectors honest history old (list_edits number FEED_BYTES outcome) new) where
   list_reply : (reply : ReplyView) → ListedAs failed old.journal.last number outcome reply
       → Answers sectors honest history (MeansList failed (status_of old) number) old new reply

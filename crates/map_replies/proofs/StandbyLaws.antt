@@ -17,7 +17,7 @@ use Rattle.serde_json.specs.Data.{Data}
 use Rattle.edit_json.specs.Batches.{IsBatch}
 use Rattle.edit_json.proofs.BatchLaws.{batch-one}
 use Rattle.tile_service.specs.Machine.{ServiceState, Happening, edit, batched, recorded_in, list_edits, AnswersEdit}
-use Rattle.tile_service.specs.Listing.{ShowsEdits}
+use Rattle.tile_service.specs.Service.{ShowsEdits}
 use Rattle.tile_service.specs.Replayed.{AreRecordsFor}
 use Rattle.tile_service.specs.Runs.{Takes, TakesAll}
 use Rattle.tile_service.specs.Stored.{CanRecord, record_for}
@@ -167,11 +167,11 @@ all_of_part (x ∷ xs) ys all =
     All-cons IsRecorded x xs (All-head IsRecorded x (xs ++ ys) all) (all_of_part xs ys (All-tail IsRecorded x (xs ++ ys) all))
 
 -- the edit behind others of those that are told, among all edits
-told_there : (first : ℕ) (edits : List EditData) (published number : ℕ) (shown told rest earlier later : List RecordedEdit) (e : RecordedEdit)
-    → AreLastOf first edits published shown → published < number → drop (number - (published + 1)) shown ≡ told ++ rest → told ≡ earlier ++ e ∷ later
+told_there : (first : ℕ) (edits : List EditData) (forgotten number : ℕ) (shown told rest earlier later : List RecordedEdit) (e : RecordedEdit)
+    → AreLastOf first edits forgotten shown → forgotten < number → drop (number - (forgotten + 1)) shown ≡ told ++ rest → told ≡ earlier ++ e ∷ later
     → IsEditOf first edits (number + length earlier) e.changes
-told_there first edits published number shown told rest earlier later e last above left is =
-    let k = number - (published + 1) in
+told_there first edits forgotten number shown told rest earlier later e last above left is =
+    let k = number - (forgotten + 1) in
     let behind : drop k shown ≡ earlier ++ e ∷ (later ++ rest) =
     left ∙ ap (λ (xs : List RecordedEdit). xs ++ rest) is ∙ append_assoc earlier (e ∷ later) rest in
     let count : length (drop k shown) ≡ length earlier + suc (length (later ++ rest)) =
@@ -191,7 +191,7 @@ told_there first edits published number shown told rest earlier later e last abo
           ∙ sym (append_assoc (last.before ++ before) among (e.changes ∷ changes_of (later ++ rest)));
       number_is = omega (
         arith,
-        last.published_is,
+        last.forgotten_is,
         above,
         within,
         length-append (last.before ++ before) among,
@@ -205,17 +205,17 @@ told_there first edits published number shown told rest earlier later e last abo
 module _ {D : Type 0} (sectors : D → ℕ) (honest : D → Type 0) (history : D → History) where
   -- what is told under a number is the edit of that number
   pub told_are_edits : (first : ℕ) (edits : List EditData) (number bytes : ℕ) (old new : ServiceView D) (shown told earlier later : List RecordedEdit)
-      (e : RecordedEdit) (records : List RecordData) → ShowsEdits (history old.disk) old shown → AreLastOf first edits old.journal.edits shown
+      (e : RecordedEdit) (records : List RecordData) → ShowsEdits (history old.disk) old shown → AreLastOf first edits old.kept_journal.edits shown
       → honest new.disk → Takes sectors honest history old (list_edits number bytes (Ok records)) new → AreRecordsFor records told
-      → old.journal.edits < number → told ≡ earlier ++ e ∷ later → IsEditOf first edits (number + length earlier) e.changes
+      → old.kept_journal.edits < number → told ≡ earlier ++ e ∷ later → IsEditOf first edits (number + length earlier) e.changes
   told_are_edits first edits number bytes old new shown told earlier later e records shows last true takes are above is =
-      let k = number - (old.journal.edits + 1) in
+      let k = number - (old.kept_journal.edits + 1) in
       let parts = first_edits bytes (drop k shown) in
       let can : All (CanRecord old.version) (drop k shown) = All-drop (CanRecord old.version) k shown shows.are_edits in
       let recorded = all_recorded old.version (drop k shown) can in
       let of_part : All IsRecorded parts.0 =
       all_of_part parts.0 parts.1 (subst (All IsRecorded) parts.2 recorded) in
       let same : told ≡ parts.0 =
-      one_run told parts.0 are.are_recorded of_part (sym are.are_records ∙ takes.listed shown shows true ∙ parts.3) in
-      told_there first edits old.journal.edits number shown told parts.1 earlier later e last above
+      one_run told parts.0 are.are_recorded of_part (sym are.are_records ∙ (takes.listed shown shows true).1 ∙ parts.3) in
+      told_there first edits old.kept_journal.edits number shown told parts.1 earlier later e last above
       (parts.2 ∙ ap (λ (xs : List RecordedEdit). xs ++ parts.1) (sym same)) is

@@ -256,11 +256,11 @@ abbrev pub MeansFound : (failed : Type 0) → (last number : ℕ) → ReplyView 
 MeansFound failed last number reply happenings = (outcome : Result (List RecordData) JournalFault)
     × ListedAs failed last number outcome reply × (happenings ≡ list_edits number FEED_BYTES outcome ∷ [])
 
--- The edits from a number on are asked for. Those up to the last published one are gone, and there are none from behind the next one on.
+-- The edits from a number on are asked for. Those that newer ones have overwritten are gone, and there are none from behind the next one on.
 abbrev pub MeansList : (failed : Type 0) → (old : Status) → ℕ → ReplyView → List Happening → Type 0
-MeansList failed old number reply happenings = ((number ≤ old.published) × MeansRefusal Gone reply happenings)
+MeansList failed old number reply happenings = ((number ≤ old.forgotten) × MeansRefusal Gone reply happenings)
     ⊎ ((old.edits + 1 < number) × MeansRefusal NotFound reply happenings)
-    ⊎ ((old.published < number) × (number ≤ old.edits + 1) × MeansFound failed old.edits number reply happenings)
+    ⊎ ((old.forgotten < number) × (number ≤ old.edits + 1) × MeansFound failed old.edits number reply happenings)
 
 -- What is shown of a feature, read as the body of a PUT is: the feature's value.
 abbrev pub ShowsFeature : OrMemory (Option FeatureData) → (content : List ℕ) → Type 0

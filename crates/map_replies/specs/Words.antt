@@ -249,9 +249,9 @@ draft_part made s = codes ",\"drafting\":" ++ draft_text made s.drafting
 unfoldable pub map_part : Status → List ℕ
 map_part s = codes ",\"edits\":" ++ decimal s.edits ++ codes ",\"features\":" ++ decimal s.features ++ codes ",\"generation\":" ++ decimal s.generation
 
--- how many places of the journal are in use
+-- the last edit that isn't listed any more, and how many places of the journal are in use
 unfoldable pub journal_part : Status → List ℕ
-journal_part s = codes ",\"journal\":{" ++ codes "\"places\":" ++ decimal s.journal_places ++ codes ",\"used\":" ++ decimal s.journal_used
+journal_part s = codes ",\"journal\":{" ++ codes "\"forgotten\":" ++ decimal s.forgotten ++ codes ",\"places\":" ++ decimal s.journal_places ++ codes ",\"used\":" ++ decimal s.journal_used
 
 -- a number, if there is one
 abbrev pub optional_text : Option ℕ → List ℕ

@@ -12,7 +12,7 @@ pub(crate) enum RequestFault {
     Edit(EditFault),
     /// The conditions of the request don't hold, or it would change something and no condition of it can hold.
     Condition,
-    /// Edits that were published are asked for: the journal doesn't have them any more.
+    /// Edits are asked for that the journal's ring doesn't have any more.
     Gone,
     /// An allocation failed.
     Memory,

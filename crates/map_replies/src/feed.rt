@@ -231,7 +231,8 @@ fn listed(
 }
 
 impl<D: Sectors + Drop> Calls<D> {
-    /// The edits from a number on. Those up to the last published one are gone: the journal doesn't have them any more.
+    /// The edits from a number on. Those that newer ones have overwritten in the journal's ring are gone, and those that were published
+    /// before this process opened the disk.
     pub(crate) fn edits_from(&mut self, number: u64) -> Result<Reply, RequestFault>
         ensures answered { IsAnswered (Answers D.sectors D.honest D.history
             (MeansList (DiskFailed D.faults self.old.service self.new.service) (status_of self.old.service) number)
@@ -240,7 +241,7 @@ impl<D: Sectors + Drop> Calls<D> {
         ensures held { KeepsTickets D.honest D.history self.old self.new }
         ensures oldest { self.new.oldest ≡ self.old.oldest }
     {
-        if number <= self.service.published() {
+        if number <= self.service.forgotten() {
             return Err(RequestFault::Gone);
         }
         let last = self.service.last();

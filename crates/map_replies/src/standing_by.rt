@@ -5,7 +5,7 @@ ghost use Rattle.edit_journal.specs.Records.{RecordData};
 ghost use Rattle.edit_text.specs.Recorded.{RecordedEdit};
 ghost use Rattle.feature_model.specs.Data.{EditData};
 ghost use Rattle.feature_store.specs.Store.{FeatureMap};
-ghost use Rattle.tile_service.specs.Listing.{ShowsEdits};
+ghost use Rattle.tile_service.specs.Service.{ShowsEdits};
 ghost use Rattle.tile_service.specs.Machine.{Happening, list_edits};
 ghost use Rattle.tile_service.specs.Replayed.{AreRecordsFor};
 ghost use Rattle.tile_service.specs.Runs.{Takes, TakesAll};
@@ -28,7 +28,7 @@ pub fn standby_has_first_edits<D: Sectors>()
 /// and none that isn't acknowledged.
 pub fn feed_tells_the_edits<D: Sectors>()
     ensures { (first : ℕ) (edits : List EditData) (number bytes : ℕ) (old new : ServiceView D) (shown told earlier later : List RecordedEdit)
-        (e : RecordedEdit) (records : List RecordData) → ShowsEdits (D.history old.disk) old shown → AreLastOf first edits old.journal.edits shown
+        (e : RecordedEdit) (records : List RecordData) → ShowsEdits (D.history old.disk) old shown → AreLastOf first edits old.kept_journal.edits shown
         → D.honest new.disk → Takes D.sectors D.honest D.history old (list_edits number bytes (Ok records)) new → AreRecordsFor records told
-        → old.journal.edits < number → told ≡ earlier ++ e ∷ later → IsEditOf first edits (number + length earlier) e.changes }
+        → old.kept_journal.edits < number → told ≡ earlier ++ e ∷ later → IsEditOf first edits (number + length earlier) e.changes }
 {}

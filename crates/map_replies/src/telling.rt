@@ -12,7 +12,7 @@ use std::alloc::{AllocError, Global};
 use tile_service::Status;
 
 /// Capacity for a part: three numbers, and the texts between them.
-const MAX_PART: usize = 3 * MAX_DIGITS + 40;
+const MAX_PART: usize = 3 * MAX_DIGITS + 44;
 
 /// Capacity for all parts, and the byte after them.
 const MAX_STATUS: usize = 7 * MAX_PART + 1;
@@ -128,7 +128,9 @@ fn push_journal_part(out: &mut Vec<u8>, status: Status)
     ensures capacity { vec_capacity out.old ≤ vec_capacity out.new }
 {
     push_text(out, b",\"journal\":{");
-    push_text(out, b"\"places\":");
+    push_text(out, b"\"forgotten\":");
+    push_number(out, status.forgotten);
+    push_text(out, b",\"places\":");
     push_number(out, status.journal_places);
     push_text(out, b",\"used\":");
     push_number(out, status.journal_used);

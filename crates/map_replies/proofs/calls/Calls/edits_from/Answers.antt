@@ -15,7 +15,7 @@ returns-clause-answered g c =
     let after : ℕ = d.faults new.disk in
     let outcome = listed_records c.edits_from-found.result in
     list_answered d.sectors d.honest d.history (HasFailed before after) old new c.args.number outcome
-    (omega (arith, c.if-number-published.false, c.published.ensures)) (omega (arith, c.if-number-last.false, c.last-last.ensures))
+    (omega (arith, c.if-number-forgotten.false, c.forgotten.ensures)) (omega (arith, c.if-number-last.false, c.last-last.ensures))
     c.edits_from-found.ensures.takes c.listed.result
     (subst (λ (last : ℕ). IsAnswered (ListedAs (HasFailed before after) last c.args.number outcome) c.listed.result) c.last-last.ensures
     (c.listed.ensures.answered before after c.edits_from-found.ensures.failed))

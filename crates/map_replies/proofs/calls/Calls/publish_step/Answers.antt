@@ -17,7 +17,7 @@ returns-clause-answered g c =
     changed_first d.sectors d.honest d.history _ _ step left_reply _ _ c.publish_step-outcome.result _ c.left.ensures.reply
     call.failed
     (step_step d.sectors d.honest d.history _ _ c.publish_step-outcome.result call.machine call.size call.touched call.drafting
-    call.disk call.refused call.any_moment call.after call.archive)
+    call.disk call.refused call.any_moment call.after call.archive call.edits)
 
 pub returns-clause-held : goal.returns-clause-held
 returns-clause-held g c =
@@ -25,7 +25,7 @@ returns-clause-held g c =
     let call = c.publish_step-outcome.ensures in
     let old = c.args.self.now.service in
     let takes = step_step d.sectors d.honest d.history old _ c.publish_step-outcome.result call.machine call.size call.touched call.drafting
-    call.disk call.refused call.any_moment call.after call.archive in
+    call.disk call.refused call.any_moment call.after call.archive call.edits in
     λ place first held. subst (λ (n : ℕ). IsHeld d.honest d.history place first n c.publish_step-outcome.new.self)
     (sym (c.oldest_after-self.ensures
     ∙ ap (λ p. oldest_after c.publish_step-outcome.result c.args.self.now.oldest p.generation) c.archive-generation.ensures.is))

@@ -19,7 +19,7 @@ returns-clause-answered g c =
     (changed_first d.sectors d.honest d.history _ _ check (λ outcome. status_reply made status) _ _ c.check.result _
     (c.told.ensures.reply ∙ ap (status_reply made) c.status.ensures) call.failed
     (check_step d.sectors d.honest d.history _ _ c.check.result call.machine (ap (λ s. s.size) call.same) (ap (λ s. s.touched) call.same)
-    (inl (ap (λ s. s.drafting) call.same)) call.disk call.refused call.any_moment call.after call.archive))
+    (inl (ap (λ s. s.drafting) call.same)) call.disk call.refused call.any_moment call.after call.archive call.edits))
 
 pub returns-clause-held : goal.returns-clause-held
 returns-clause-held g c =

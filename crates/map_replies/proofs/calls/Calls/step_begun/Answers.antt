@@ -18,7 +18,7 @@ returns g c =
     let oldest = c.oldest_after-self.ensures
     ∙ ap (λ p. oldest_after outcome c.args.self.now.oldest p.generation) c.archive-generation.ensures.is in
     let takes = step_step d.sectors d.honest d.history old new outcome call.machine call.size call.touched call.drafting
-    call.disk call.refused call.any_moment call.after call.archive in
+    call.disk call.refused call.any_moment call.after call.archive call.edits in
     record {
       takes = takes;
       unfinished = leaves_something old new outcome c.requires.more call.machine;
