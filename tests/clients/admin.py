@@ -26,7 +26,7 @@ def status(**changes):
         "edits": 0,
         "features": 0,
         "generation": 0,
-        "journal": {"places": 1024, "used": 0},
+        "journal": {"forgotten": 0, "places": 1024, "used": 0},
         "last": None,
         "left": None,
         "published": 0,
@@ -85,7 +85,7 @@ def statuses(cases, server):
     url = server.url
     same(cases, "status: a fresh disk", curl(url + STATUS), status())
     curl(url + "/features/7", "-X", "PUT", body=feature())
-    one = {"edits": 1, "features": 1, "journal": {"places": 1024, "used": 1}, "last": 7, "stale": 1}
+    one = {"edits": 1, "features": 1, "journal": {"forgotten": 0, "places": 1024, "used": 1}, "last": 7, "stale": 1}
     same(cases, "status: an edit", curl(url + STATUS), status(**one))
     curl(url + "/publish/begin", "-X", "POST")
     same(cases, "status: a publication under way", curl(url + STATUS), status(**one, left=3))
@@ -96,12 +96,13 @@ def statuses(cases, server):
         "area": {"sectors": 1534, "used": 2},
         "generation": 1,
         "published": 1,
-        "journal": {"places": 1024, "used": 0},
+        "journal": {"forgotten": 0, "places": 1024, "used": 0},
         "stale": 0,
     }
     same(cases, "status: it is installed", curl(url + STATUS), status(**done))
     curl(url + "/features/7", "-X", "DELETE")
-    empty = {**done, "edits": 2, "features": 0, "journal": {"places": 1024, "used": 1}, "last": None, "stale": 1}
+    used = {"forgotten": 0, "places": 1024, "used": 1}
+    empty = {**done, "edits": 2, "features": 0, "journal": used, "last": None, "stale": 1}
     same(cases, "status: nothing is left of the map", curl(url + STATUS), status(**empty))
     same(
         cases,
@@ -207,7 +208,7 @@ def saved(cases, folder, server):
 def piped(cases: Cases, folder: str) -> None:
     """`pipe` and `demo` have the option too."""
     sent = f"GET {STATUS} HTTP/1.0\r\n\r\n".encode()
-    small = {"area": {"sectors": 22, "used": 0}, "journal": {"places": 16, "used": 0}, "sectors": 64}
+    small = {"area": {"sectors": 22, "used": 0}, "journal": {"forgotten": 0, "places": 16, "used": 0}, "sectors": 64}
     _, _, content = status(**small)
     disk = os.path.join(folder, "piped")
     subprocess.run([PROGRAM, "format", disk, "--sectors", "64"], check=True, stdout=subprocess.DEVNULL)

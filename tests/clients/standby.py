@@ -343,17 +343,24 @@ def behind(cases: Cases, folder: str) -> None:
             child.communicate()
             editor.edit()
             curl(leader.url + "/publish", "-X", "POST")
-            code, lines = once(leader.url, "--to", standby.url, "--log", log)
-            told = [line for line in lines if "it has edits up to 122, and" in line]
-            cases.show(
-                "standby: one that was away is left behind",
-                (code, len(told), "begin it anew from a copy" in " ".join(told).lower()),
-                (1, 1, True),
-            )
-            with open(log, encoding="utf-8") as file:
-                rows = [json.loads(line) for line in file]
-            cases.show("standby: the log says what it misses, and goes on", rows[-1]["missed"], [123, 123])
-            anew(cases, folder, leader, standby, editor)
+            cases.show("standby: a published edit is listed", known(leader)["journal"]["forgotten"], 0)
+            leader.end()
+            with Server(folder, "behind", port=leader.port) as again:
+                code, lines = once(again.url, "--to", standby.url, "--log", log)
+                told = [line for line in lines if "it has edits up to 122, and" in line]
+                cases.show(
+                    "standby: one that was away over a publication and a restart is left behind",
+                    (code, len(told), "begin it anew from a copy" in " ".join(told).lower()),
+                    (1, 1, True),
+                )
+                with open(log, encoding="utf-8") as file:
+                    rows = [json.loads(line) for line in file]
+                cases.show(
+                    "standby: the log says what it misses, and goes on",
+                    rows[-1]["missed"],
+                    [123, 123],
+                )
+                anew(cases, folder, again, standby, editor)
 
 
 def waits(cases, leader, standby, editor):
@@ -613,6 +620,8 @@ def histories(cases: Cases, folder: str) -> None:
                 (0, True),
             )
             subprocess.run([*VTMAP, "publish", "--url", standby.url], check=True, capture_output=True)
+            standby.end()
+        with Server(folder, name) as standby:
             code, _ = once(leader.url, "--to", standby.url)
             cases.show("standby: one that lists no edit any more", (code, known(standby)["edits"]), (0, 5))
             leader.end(signal.SIGKILL)

@@ -36,10 +36,10 @@ THEN = ANEW[0].upper() + ANEW[1:]
 
 
 class LeftBehind(Fault):
-    """A publication has freed the edits from a number on. `published`: the last edit of that publication."""
+    """The server no longer lists the edits from a number on. `published`: the last edit that it doesn't list, which has been published."""
 
     def __init__(self, address: str, number: int, published: int) -> None:
-        super().__init__(f"{address} no longer lists edit {number:,}: it has published the edits up to {published:,}")
+        super().__init__(f"{address} no longer lists edit {number:,}: those up to {published:,} are published and gone from its journal")
         self.number, self.published = number, published
 
 
@@ -71,7 +71,9 @@ class Leader(Client):
                     raise Stopped(f"{self.address} lists edit {edit['edit']:,} in place of {at:,}")
             return reply["edits"], reply["last"]
         if status == 410:
-            raise LeftBehind(self.address, number, self.known()["published"])
+            status = self.known()
+            # An older server lists no published edit.
+            raise LeftBehind(self.address, number, status["journal"].get("forgotten", status["published"]))
         if status == 404:
             edits = self.known()["edits"]
             if number > edits + 1:

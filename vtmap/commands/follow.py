@@ -48,8 +48,8 @@ are kept in FILE.map. A new log begins with the next edit. FILE may be renamed m
 those changes of features that are, or were, in the box of --bbox and in a --layer. If it doesn't end with 0, it is run again with the same edits, after
 ten seconds at first: so an edit may be told twice, and none is left out. FILE.run has the number of the last one; the first one is the next one.
 
-A publication of the server takes the edits up to its beginning out of the list. `vtmap publish --pause 5` gives who follows the time to read
-them before. Whoever hasn't is left behind: a log gets a line `{"time":..,"missed":[8,12]}` and goes on; a standby has to begin anew from a copy,
+The server lists published edits until newer ones need their places in its journal, or until it is started again; an older server lists none.
+`vtmap publish --pause 5` gives who follows the time to read them before. Whoever hasn't is left behind: a log gets a line `{"time":..,"missed":[8,12]}` and goes on; a standby has to begin anew from a copy,
 by --anew COMMAND, which the shell runs with its address in $STANDBY: it stops the standby, copies the disk and starts the standby again.
 --publish publishes a standby when its journal is full, and after the server has published.
 

@@ -31,10 +31,10 @@ restarted. --record keeps the outcome in a file, for `vtmap watch`.
 --changed publishes only if the archive lacks an edit, which a server with --admin tells: nobody waits then, and readers keep the archive that
 they know. With --to also if the last archive isn't known to be in its place, by what --record kept.
 
---pause SECONDS waits so long after the beginning, while edits go on. The last step takes the edits up to the beginning out of the list that a
-standby or a log is made of (`vtmap follow`): 5 seconds are enough for one that keeps up. --standby URL waits until that standby has these edits, and
---log FILE until that log has them, --pause seconds at most, or 60. VTSERVE_PAUSE, VTSERVE_STANDBYS and VTSERVE_LOGS say so for each command that
-publishes, `vtmap import --publish` for instance.
+--pause SECONDS waits so long after the beginning, while edits go on. Published edits leave the list that a standby or a log is made of
+(`vtmap follow`) at the next start of the server, or when newer ones need their places: 5 seconds are enough for one that keeps up. --standby
+URL waits until that standby has these edits, and --log FILE until that log has them, --pause seconds at most, or 60. VTSERVE_PAUSE,
+VTSERVE_STANDBYS and VTSERVE_LOGS say so for each command that publishes, `vtmap import --publish` for instance.
 
 --to PLACE puts the archive into an object store, under a name of its own, and then the file newest.json, which names it: readers of an older
 one aren't disturbed. PLACE is s3://BUCKET/FOLDER (by `aws s3 cp`) or REMOTE:BUCKET/FOLDER (by `rclone`).
