@@ -2,7 +2,7 @@
 docs/HTTP.md. It shares no code with the product."""
 import features
 from crashes import Failed
-from disk import parts_of, record_text
+from disk import record_text
 from machine import Refused, box_of
 
 # Edits are listed until their texts, as the journal has them, have so many bytes, and features until their JSON has so many.
@@ -31,35 +31,20 @@ def asked(change):
     return {"delete": change.number} if change.feature is None else {"put": change.number, "feature": change.feature}
 
 
-def read_places(service, first, count):
-    """Reads so many places of the journal, the first of which is so many places behind that of the root."""
-    for offset in range(first, first + count):
-        service.disk.read(service.layout.place(service.root.journal_at + offset))
-
-
-def find_place(service, offset):
-    """Reads the places by which the record behind so many places is found: those in use are halved."""
-    low, high = 0, service.used
-    while low < high:
-        middle = low + (high - low) // 2
-        read_places(service, middle, 1)
-        low, high = (middle + 1, high) if middle < offset else (low, middle)
-
-
 def edits_from(service, number):
-    """The edits from a number on that the journal has, as JSON."""
-    published = service.root.edits
-    if number <= published:
+    """The edits from a number on that the journal's ring has, as JSON."""
+    if number <= service.forgotten:
         raise Refused("Gone")
     if number > service.last + 1:
         raise Refused("NotFound")
     size_of = lambda record: len(record_text(record))  # noqa: E731
-    before, behind = service.recorded[: number - published - 1], service.recorded[number - published - 1 :]
-    listed = until(behind, size_of, FEED_BYTES)
-    offset = sum(parts_of(size_of(record)) for record in before)
+    skipped = number - service.forgotten - 1
+    listed = until(service.recorded[skipped:], size_of, FEED_BYTES)
+    offset = service.places_of(service.recorded[:skipped])
     try:
-        find_place(service, offset)
-        read_places(service, offset, sum(parts_of(size_of(record)) for record in listed))
+        service.find_record(offset)
+        for place in range(offset, offset + service.places_of(listed)):
+            service.read_place(place)
     except Failed as failed:
         raise Refused("Device") from failed
     edits = [{"changes": [asked(change) for change in record.changes], "edit": number + index} for index, record in enumerate(listed)]

@@ -14,6 +14,8 @@ from tiles import tile
 NUMBER_END = 2**63
 MAX_ELEMENTS = 65535
 STEP_SECTORS = 64
+# Where published records have to go for a new one, this part of the journal's ring is freed at least.
+FREED_PART = 64
 # After how many sectors what the steps of a publication wrote is synced.
 SYNC_SECTORS = 512
 BEGUN = object()
@@ -166,10 +168,41 @@ class Service:
         self.whole = None
         self.snapshot, self.map, self.last, self.cells, self.boxes = found.snapshot, dict(found.snapshot), found.root.edits, {}, []
         self.kept, self.directories = {}, None
-        # The edits since the last publication, as the journal has them.
-        self.recorded = list(found.records)
+        # The edits that the journal's ring has, published ones before those in use; the place of the first, how many places they have, and
+        # the number of the last one that it doesn't have.
+        self.recorded, self.recorded_at, self.taken, self.forgotten = list(found.records), found.root.journal_at, found.used, found.root.edits
         for record in found.records:
             self.apply(record.changes)
+
+    def places_of(self, records):
+        return sum(parts_of(len(record_text(record))) for record in records)
+
+    def read_place(self, offset):
+        """Reads the place that is so many places behind that of the first record that the ring has."""
+        self.disk.read(self.layout.place(self.recorded_at + offset))
+
+    def find_record(self, offset):
+        """Reads the places by which the record behind so many places is found: all that the ring's records have are halved."""
+        low, high = 0, self.taken
+        while low < high:
+            middle = low + (high - low) // 2
+            self.read_place(middle)
+            low, high = (middle + 1, high) if middle < offset else (low, middle)
+
+    def make_room(self, need):
+        """Forgets published records whose places the next one takes: a 64th of the ring, or what is short, up to the end of a record."""
+        short = need - (self.layout.places - self.taken)
+        if short <= 0:
+            return
+        least = min(max(short, self.layout.places // FREED_PART), self.taken - self.used)
+        count = offset = 0
+        while offset < least:
+            offset += self.places_of(self.recorded[count : count + 1])
+            count += 1
+        self.read_place(least - 1)
+        self.find_record(offset)
+        self.recorded, self.forgotten = self.recorded[count:], self.forgotten + count
+        self.recorded_at, self.taken = (self.recorded_at + offset) % self.layout.places, self.taken - offset
 
     def next_place(self):
         return (self.root.journal_at + self.used) % self.layout.places
@@ -208,9 +241,10 @@ class Service:
         need, free = parts_of(len(text)), self.layout.places - self.used
         if need > free:
             raise Refused("JournalFull", need, free)
+        self.changed(lambda: self.make_room(need))
         self.attempted = changes
         self.changed(lambda: append(self.disk, self.layout.place, self.next_place(), self.last + 1, text, self.version))
-        self.used += need
+        self.used, self.taken = self.used + need, self.taken + need
         self.recorded.append(Record(self.version, changes))
         self.apply(changes)
         return self.last
@@ -323,7 +357,6 @@ class Service:
             return
         root = Root(generation, going.edits, going.place, *going.lengths)
         install(self.disk, root)
-        self.recorded = self.recorded[root.edits - self.root.edits :]
         self.root, self.snapshot, self.used = root, going.map, self.used - going.used
         self.publication, self.draft, self.directories = None, None, None
 
@@ -457,7 +490,7 @@ class Service:
             "edits": self.last,
             "features": len(self.map),
             "generation": root.generation,
-            "journal": {"places": layout.places, "used": self.used},
+            "journal": {"forgotten": self.forgotten, "places": layout.places, "used": self.used},
             "last": max(self.map, default=None),
             "left": going.sectors - going.written + 1 if going else None,
             "published": root.edits,

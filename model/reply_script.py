@@ -87,7 +87,7 @@ EXAMPLES = [
     (request("GET", "/admin/features/from/8"), found(JSON, f'{{"feature":{SHOWN},"id":8}}')),
     (request("GET", "/admin/features/from/9"), found("text/plain", "NotFound\n", "404 Not Found")),
     (request("GET", "/admin/status"), found(JSON, '{"archive":223,"area":{"sectors":94,"used":2},"broken":false,"cells":1024,"drafting":null,"edits":4,"features":2,'
-                                                  '"generation":2,"journal":{"places":64,"used":3},"last":8,"left":null,"published":1,"sectors":256,'
+                                                  '"generation":2,"journal":{"forgotten":0,"places":64,"used":3},"last":8,"left":null,"published":1,"sectors":256,'
                                                   '"stale":1,"version":2}')),
     (request("POST", "/admin/edits", b'{"changes":[{"delete":8,"was":null}]}'), found("text/plain", "Changed 8\n", "409 Conflict")),
     (request("POST", "/admin/edits", b'{"changes":[{"delete":8,"was":%s}]}' % BODY), found(JSON, '{"edit":5}')),
