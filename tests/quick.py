@@ -92,6 +92,7 @@ PARTS = [
     client("foreign"),
     client("wfs-hostile"),
     client("wfs-maps"),
+    client("wfs-far"),
     client("told"),
     client("wfs-tables"),
     client("schema"),

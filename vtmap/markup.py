@@ -65,6 +65,11 @@ class Frame:
         self.head = "".join([f"{begun(name, attributes)}>" for name, attributes in pairs])
         self.tail = "".join([f"</{name}>" for name, _ in reversed(pairs)])
 
+    @property
+    def begun(self) -> str:
+        """What a document of it begins with."""
+        return HEAD + self.head
+
     def of(self, content: object) -> Xml:
         """The elements, with a content inside of the inner one."""
         return Xml(f"{self.head}{content if type(content) is Xml else said(content)}{self.tail}")

@@ -81,6 +81,7 @@ from clients.units import units  # noqa: E402
 from clients.updates import updates  # noqa: E402
 from clients.wfs import wfs  # noqa: E402
 from clients.wfs_deaths import wfs_deaths  # noqa: E402
+from clients.wfs_far import wfs_far  # noqa: E402
 from clients.wfs_hostile import wfs_hostile  # noqa: E402
 from clients.wfs_maps import wfs_maps  # noqa: E402
 from clients.wfs_qgis import wfs_qgis  # noqa: E402
@@ -125,6 +126,7 @@ def main():
         "wfs-deaths": wfs_deaths,
         "wfs-hostile": wfs_hostile,
         "wfs-maps": wfs_maps,
+        "wfs-far": wfs_far,
         "told": told,
         "foreign": foreign,
         "wfs-random": wfs_random,

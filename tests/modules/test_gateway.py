@@ -390,10 +390,10 @@ class Sessions(unittest.TestCase):
     def test_who_pans_gets_no_second_version(self):
         session, old = Session(), VIEWS[0]
         new = view(1, [2**30, 2**30], name="Oak")
-        self.assertEqual(session.pinned(TABLE, (0, 0, 2**31, 2**31), [old]), [old])
-        self.assertEqual(session.pinned(TABLE, (0, 0, 2**31, WORLD), [new]), [old])
+        self.assertEqual(list(session.pinned(TABLE, (0, 0, 2**31, 2**31), [old])), [old])
+        self.assertEqual(list(session.pinned(TABLE, (0, 0, 2**31, WORLD), [new])), [old])
         # The same box again is asked for when the layer is loaded anew.
-        self.assertEqual(session.pinned(TABLE, (0, 0, 2**31, 2**31), [new]), [new])
+        self.assertEqual(list(session.pinned(TABLE, (0, 0, 2**31, 2**31), [new])), [new])
 
     def test_another_id(self):
         self.assertRaises(Refused, Session().held, "somewhere.7")

@@ -10,6 +10,7 @@ from typing import Any
 
 from .. import alive
 from ..files.checkout_file import KINDS
+from ..gateway.far_map import HELD
 from ..gateway.listener import listener
 from ..gateway.maps import Maps
 from ..gateway.one_map import OneMap, OnlyMap
@@ -71,6 +72,8 @@ def options(parser: argparse.ArgumentParser, _: str) -> None:
                         "the usual ones; may be repeated")
     parser.add_argument("--cors", action="store_true", help="let pages of all origins read what is below /ogc: for a map that everybody may read")
     parser.add_argument("--publish", action="store_true", help="publish when the journal is full")
+    parser.add_argument("--held", type=int, default=HELD, metavar="FEATURES", help=f"hold a map of up to so many features in memory; of a larger one read "
+                        f"boxes as they are asked for, if the server has them ({HELD:,})")
     parser.add_argument("--maps", action="store_true", help="answer for each map of this machine; {map} and {port} in the other words are its own")
     parser.add_argument("--idle", type=float, default=IDLE, metavar="SECONDS", help=f"--maps: after how long without a request a map gives up its "
                         f"memory ({IDLE})")

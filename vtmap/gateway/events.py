@@ -88,14 +88,14 @@ class Events:
 
     def look(self, client: Any) -> None:
         """Waits for the next edit, and takes it."""
-        began = time.monotonic()
+        began, is_first = time.monotonic(), self.last is None
         try:
-            at = self.known_of(client)
-            edits, last = client.edits_from(at + 1, WAIT)
+            # The first reply is wanted at once.
+            edits, last = client.edits_from(self.known_of(client) + 1, 0 if is_first else WAIT)
             if edits:
                 self.live.take_edits(edits)
             self.know(last)
-            if not edits and time.monotonic() < began + SHORTEST:
+            if not edits and not is_first and time.monotonic() < began + SHORTEST:
                 time.sleep(PAUSE)
         except Fault:
             # The server no longer has these edits, or doesn't answer: pages look for themselves until it does.
@@ -107,11 +107,7 @@ class Events:
         """The number of the last edit that is known: that of the map, if it is in memory."""
         at = self.live.edits
         at = self.last if at is None else at
-        if at is None:
-            at = client.known()["edits"]
-        if self.last is None:
-            self.know(at)
-        return at
+        return client.known()["edits"] if at is None else at
 
     def see_anew(self) -> None:
         """Takes what the map has now, if it is in memory."""

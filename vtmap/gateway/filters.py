@@ -79,6 +79,24 @@ def test_of(element: Element, table: Table, session: Session) -> Test:
     return lambda view: known(table.cell(view, named[0]))
 
 
+def box_within(element: Element) -> Box | None:
+    """A box that all features of a filter are in: that of the filter, or of a part that has to be true; None if there is none."""
+    name = local(element)
+    if name in ("BBOX", "Intersects"):
+        return box_in(element)
+    parts = list(element) if name == "And" or (name == "Filter" and len(element) == 1) else []
+    return next((box for box in map(box_within, parts) if box is not None), None)
+
+
+def ids_within(element: Element, session: Session) -> set[int] | None:
+    """The numbers of the features that a filter names, if it names them by their ids alone, or a part that has to be true does; otherwise None."""
+    name = local(element)
+    if name in OF_IDS or (name in ("Filter", "Or") and len(element) and all(local(child) in OF_IDS for child in element)):
+        return {session.held(fid)[0] for part in element.iter() if local(part) in OF_IDS for fid in fids_in(part)}
+    parts = list(element) if name == "And" or (name == "Filter" and len(element) == 1) else []
+    return next((found for part in parts for found in [ids_within(part, session)] if found is not None), None)
+
+
 def test_of_ids(fids: Iterable[str], session: Session) -> Test:
     """Whether a feature has one of these ids."""
     wanted = {session.held(fid)[0] for fid in fids}

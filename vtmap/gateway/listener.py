@@ -21,6 +21,7 @@ from ..files import map_schema
 from ..shown import shown, shown_lines
 from ..systems import is_windows
 from . import file_paths, wfs_texts
+from .far_replies import Spool, Spooled
 from .file_paths import FILES
 from .ogc_api import Unknown
 from .ogc_texts import JSON
@@ -47,6 +48,8 @@ MOST_BODY, MOST_BODIES, LEAST_GZIP = 32 * 2 ** 20, 256 * 2 ** 20, 2000
 # Seconds after which a connection without a request is closed, and one that stops in the middle of a request or takes nothing of its reply; the bytes
 # of a second that a body or a reply takes at least beside these; and the seconds for which what a refused client sends yet is read.
 IDLE, PAUSE, SLOWEST, LINGER = 300, 30, 64 * 2 ** 10, 2
+# The bytes of a file that are sent at once.
+CHUNK = 2 ** 17
 # A field of a reply, and those of one.
 Field = tuple[str, Any]
 Fields = list[Field]
@@ -308,7 +311,7 @@ class Handler(BaseHTTPRequestHandler):
 
     # ---- replies
 
-    def answer_wfs(self, version: wfs_texts.Version, code: str, work: Callable[[], str]) -> None:
+    def answer_wfs(self, version: wfs_texts.Version, code: str, work: Callable[[], Any]) -> None:
         """Answers by WFS. A refusal has status 200 too: of another one QGIS shows no text."""
         try:
             text = work()
@@ -320,8 +323,12 @@ class Handler(BaseHTTPRequestHandler):
             text = wfs_texts.report(version, code, "the request is nested too deep")
         except Exception as fault:
             text = wfs_texts.report(version, "NoApplicableCode", broken(fault))
-        text = text if self.map.files is None else file_paths.by_addresses(text, self.address("/"))
-        self.reply(200, text.encode(), XML)
+        changed = (lambda part: part) if self.map.files is None else lambda part: file_paths.by_addresses(part, self.address("/"))
+        if isinstance(text, Spooled):
+            is_zipped = "gzip" in self.headers.get("accept-encoding", "")
+            self.reply_by_file(*text.packed(changed, is_zipped), XML, is_zipped)
+        else:
+            self.reply(200, changed(text).encode(), XML)
 
     def answer_ogc(self, path: str, given: dict[str, str]) -> None:
         """Answers by OGC API Features."""
@@ -336,7 +343,10 @@ class Handler(BaseHTTPRequestHandler):
             status, data = 400, refused("InvalidParameterValue", fault)
         except Exception as fault:
             status, data = 500, refused("NoApplicableCode", broken(fault))
-        self.reply(status, data, kind, [*fields, *self.readable()])
+        if isinstance(data, Spool):
+            self.reply_by_file(data, data.length(), kind, False, [*fields, *self.readable()])
+        else:
+            self.reply(status, data, kind, [*fields, *self.readable()])
 
     def readable(self) -> Fields:
         """What lets pages of other origins read a reply, if they may."""
@@ -407,6 +417,19 @@ class Handler(BaseHTTPRequestHandler):
                 self.connection.sendfile(file)
         except OSError:
             self.close_connection = True
+
+    def reply_by_file(self, made: Spool, length: int, kind: str, is_zipped: bool, more: Iterable[Field] = ()) -> None:
+        """Sends a reply that is in a file."""
+        fields: Fields = [("Content-Type", kind), ("Content-Length", length), ("Cache-Control", "no-store"), *SAFETY, *more]
+        try:
+            self.connection.settimeout(PAUSE + length / SLOWEST)
+            self.connection.sendall(self.head_of(200, [*fields, *([("Content-Encoding", "gzip")] if is_zipped else [])]))
+            while self.command != "HEAD" and (part := made.file.read(CHUNK)):
+                self.connection.sendall(part)
+        except OSError:
+            self.close_connection = True
+        finally:
+            made.close()
 
     def refuse(self, status: int, text: str, more: Iterable[Field] = ()) -> None:
         """Refuses a request whose body, if it has one, isn't read, and ends the connection."""

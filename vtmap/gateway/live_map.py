@@ -8,7 +8,7 @@ from ..client.feed import LeftBehind
 from ..faults import Stopped
 from ..files.map_schema import SchemaFile, schema_of
 from ..files.save_log import Unwritable
-from ..geometry.wholes import WHOLE, Whole, group_of, joined
+from ..geometry.wholes import PIECE, WHOLE, Whole, group_of, joined
 from .tables import NO_PAST, Past, Table, View
 
 # How often the map is listed anew where a publication has ended the list of the edits since.
@@ -23,6 +23,9 @@ class LiveMap:
     """The features of the map up to the edit `edits`. `client`: a `Leader`. `further`: types of tags by layer and kind, for tables and columns that the
     map doesn't have yet. `log`: a `SaveLog`, which keeps the tables that lost their last feature, or None. `schema`: a `SchemaFile`, or None. Whoever
     uses it holds `lock`."""
+
+    # Whether features are read as they are asked for, and not held.
+    is_far = False
 
     def __init__(self, client, further, log=None, schema=None):
         self.client, self.further, self.log, self.lock = client, further, log, threading.RLock()
@@ -196,14 +199,26 @@ class LiveMap:
     def add_to_schema(self, more):
         """Adds what another schema has more to the file. A layer that the file doesn't name gets what the map has of it, too. Returns the schema."""
         new = [name for name in more.layers if name not in self.schema.read().layers]
-        there = schema_of(view.feature for name in new for key, views in self.members.items() if key[0] == name for view in views.values())
+        there = schema_of(self.features_of(new))
         self.schema.add(there.added(more))
         return self.see_schema()
 
+    def features_of(self, layers):
+        """The features of layers, for their schema."""
+        yield from (view.feature for name in layers for key, views in self.members.items() if key[0] == name for view in views.values())
+
     # ---- versions
 
-    def remember(self, number, version, feature):
+    def remember(self, view):
         """Remembers a version that somebody has got."""
-        self.known.setdefault((number, version), feature)
+        self.known.setdefault((view.number, view.version), view.feature)
         while len(self.known) > MOST_KNOWN:
             del self.known[next(iter(self.known))]
+
+    def pack(self, view):
+        """What is kept of a feature that a GIS shows; its `view()` is the feature."""
+        return view
+
+    def greatest(self):
+        """The greatest id of a feature, or 0: pieces have greater ones."""
+        return max((number for number in self.now if number < PIECE), default=0)

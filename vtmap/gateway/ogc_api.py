@@ -1,6 +1,7 @@
 """The requests of OGC API Features (Part 1: Core, Part 2: coordinate systems), answered: whatever reads GeoJSON reads the map of now. Needs no package."""
 from __future__ import annotations
 
+import itertools
 import json
 import math
 import re
@@ -13,10 +14,11 @@ from ..faults import Refused
 from ..geometry.shapes import Box
 from ..geometry.wholes import right_handed
 from . import ogc_texts
-from .downloads import CSV, GEOPACKAGE, csv_of, geopackage_of
+from .downloads import CSV, GEOPACKAGE, csv_file_of, csv_of, geopackage_file_of, geopackage_of
+from .far_replies import Spool
 from .ogc_texts import CRS, FORMAT, GEOJSON, JSON, MOST, OPENAPI, PARAMETERS, USUAL, Document
 from .projections import System, Systems
-from .tables import Table, View, meets, text_of
+from .tables import FarTable, Table, View, around, meets, text_of
 
 # The formats, and those of a file of features to download.
 FORMATS, FILES = ("json", "geojson"), ("csv", "gpkg")
@@ -43,7 +45,7 @@ class OgcApi:
     def __init__(self, live: LiveMap, look: Callable[[], object], systems: Systems | None = None) -> None:
         self.live, self.look, self.systems = live, look, systems or Systems()
 
-    def answer(self, path: str, given: Given, address: str) -> tuple[str, bytes, Fields]:
+    def answer(self, path: str, given: Given, address: str) -> tuple[str, bytes | Spool, Fields]:
         """The media type, the content and further fields of the reply to a request. `path`: what comes after the address."""
         with self.live.lock:
             self.look()
@@ -51,17 +53,17 @@ class OgcApi:
         # Tables and views stay as they are: others go on while the reply is made.
         parts = [urllib.parse.unquote(part) for part in path.strip("/").split("/")] if path.strip("/") else []
         fields: Fields = []
-        found: Document | bytes
+        found: Document | bytes | Spool
         if parts[:1] == ["collections"] and 2 <= len(parts) <= 4:
             kind, found, fields = self.collection(parts[1:], tables, given, address)
         else:
             kind, found = whole(parts, tables.values(), address, self.systems.names)
             see_names(given, ())
-        return kind, found if isinstance(found, bytes) else json.dumps(found, ensure_ascii=False, separators=(",", ":")).encode(), fields
+        return kind, found if isinstance(found, (bytes, Spool)) else json.dumps(found, ensure_ascii=False, separators=(",", ":")).encode(), fields
 
     def collection(
         self, parts: list[str], tables: Mapping[str, Table], given: Given, address: str
-    ) -> tuple[str, Document | bytes, Fields]:
+    ) -> tuple[str, Document | bytes | Spool, Fields]:
         """The reply about a collection, its features, or one of them."""
         table = tables.get(parts[0])
         if table is None:
@@ -105,21 +107,27 @@ def whole(parts: list[str], tables: Iterable[Table], address: str, systems: list
     raise Unknown("no such path")
 
 
-def chosen(table: Table, given: Given, box_system: System) -> list[View]:
+def chosen(table: Table, given: Given, box_system: System) -> Iterable[View]:
     """The features that a request asks for, in the order of their ids."""
     see_names(given, [*PARAMETERS, *(tag for tag, _ in table.columns.values())], (*FORMATS, *FILES))
     boxes = boxes_of(given.get("bbox"), box_system)
     if not TIMES.fullmatch(given.get("datetime", "..")):
         raise Refused(f"datetime is no time and no interval: {given['datetime']}")
+    if isinstance(table, FarTable):
+        after = number_of(given, "after", 0) if "after" in given else -1
+        views = table.within(around(boxes), after) if boxes else table.following(after)
+        return (view for view in views if is_asked(view, table, boxes, given))
     return [view for view in table.views if is_asked(view, table, boxes, given)]
 
 
-def download(table: Table, given: Given, system: System, box_system: System) -> tuple[str, bytes, Fields]:
+def download(table: Table, given: Given, system: System, box_system: System) -> tuple[str, bytes | Spool, Fields]:
     """All features that a request asks for, as a file."""
     found, form = chosen(table, given, box_system), given["f"]
     if form == "gpkg" and "crs" in given:
         raise Refused("a GeoPackage is written in Web Mercator: leave crs out")
     fields = [("Content-Disposition", f"attachment; filename*=UTF-8''{urllib.parse.quote(table.name, safe='')}.{form}")]
+    if isinstance(table, FarTable):
+        return (CSV, csv_file_of(table, found, system), fields) if form == "csv" else (GEOPACKAGE, geopackage_file_of(table, found), fields)
     return (CSV, csv_of(table, found, system), fields) if form == "csv" else (GEOPACKAGE, geopackage_of(table, found), fields)
 
 
@@ -129,7 +137,14 @@ def items(table: Table, given: Given, here: str, system: System, box_system: Sys
     after, limit = number_of(given, "after", 0), min(number_of(given, "limit", USUAL), MOST)
     if limit == 0:
         raise Refused("limit is 0")
-    left = [view for view in found if view.number > after] if "after" in given else found
+    if isinstance(table, FarTable):
+        # One more than the page has says whether there is another page.
+        left = list(itertools.islice(found, limit + 1))
+        matched = matched_of(table, given, left, limit)
+    else:
+        every = list(found)
+        left = [view for view in every if view.number > after] if "after" in given else every
+        matched = {"numberMatched": len(every)}
     page = left[:limit]
     links = [ogc_texts.link("self", GEOJSON, with_query(here, given), "this page"), ogc_texts.link("collection", JSON, here, table.title)]
     if len(left) > limit:
@@ -137,8 +152,15 @@ def items(table: Table, given: Given, here: str, system: System, box_system: Sys
     plain = {name: value for name, value in given.items() if name not in ("limit", "after", "f", "crs")}
     links += [ogc_texts.link("alternate", kind.split(";")[0], with_query(here, {**plain, "f": form}), f"all of them as {named}")
               for form, kind, named in (("csv", CSV, "CSV"), ("gpkg", GEOPACKAGE, "GeoPackage"))]
-    return {"type": "FeatureCollection", "features": [geojson(view, system) for view in page], "links": links, "numberMatched": len(found),
+    return {"type": "FeatureCollection", "features": [geojson(view, system) for view in page], "links": links, **matched,
             "numberReturned": len(page), "timeStamp": time.strftime("%Y-%m-%dT%H:%M:%SZ", time.gmtime())}
+
+
+def matched_of(table: Table, given: Given, left: list[View], limit: int) -> Document:
+    """How many features of a map that isn't held a request asks for, if that is known without reading them all: the standard lets it be left out."""
+    if not [name for name in given if name not in ("limit", "after", "f", "crs", "datetime", "bbox-crs")]:
+        return {"numberMatched": table.count}
+    return {"numberMatched": len(left)} if len(left) <= limit and "after" not in given else {}
 
 
 def is_asked(view: View, table: Table, boxes: list[Box], given: Given) -> bool:

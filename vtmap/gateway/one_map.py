@@ -12,7 +12,7 @@ from ..files.map_schema import SchemaFile
 from ..files.save_log import SaveLog
 from .events import Events
 from .history import History
-from .live_map import LiveMap
+from .far_map import FarMap
 from .ogc_api import OgcApi
 from .projections import Systems
 from .saves import Saves
@@ -28,7 +28,7 @@ class OneMap:
         self.log.shorten(time.time() - FORGOTTEN)
         for row in self.log.done:
             self.sessions.restore(row)
-        self.live = LiveMap(Leader(words.url, words.publish), dict(words.layer), self.log, SchemaFile(words.schema))
+        self.live = FarMap(Leader(words.url, words.publish), dict(words.layer), self.log, SchemaFile(words.schema), words.held)
         self.live.name = name
         self.wfs = Wfs(self.live, self.sessions, Saves(self.live, self.log, words.log))
         self.ogc = OgcApi(self.live, self.wfs.look, systems)

@@ -4,6 +4,7 @@ The id of a feature names its version (`place.points.352.9f..`), and a GIS sends
 GIS keeps the id of a feature that it has saved, though the feature has another version since; and while it is panned it gets no second version of a
 feature, since it would show both.
 """
+import math
 import time
 from collections import defaultdict
 
@@ -19,6 +20,8 @@ ASKED = 600
 # The most sessions, the most features in the boxes of all of them, and the most boxes of a table in one. Of those beyond, the ones go first that were
 # used least recently, and of sessions those that have saved nothing.
 MOST_SESSIONS, MOST_SHOWN, MOST_BOXES = 10_000, 5_000_000, 1000
+# The same features of a map that isn't held: some 600 bytes each.
+MOST_FAR = 60_000
 
 
 class Session:
@@ -94,11 +97,13 @@ class Session:
             elif version is None:
                 self.seen.add((number, version))
 
-    def pinned(self, table, box, views):
+    def pinned(self, table, box, views, pack=lambda view: view, most=math.inf):
         """The features of a box, each as the GIS has it already. A box inside of one before is asked for when the layer is loaded anew (F5): a GIS
-        that is panned asks for none of those."""
+        that is panned asks for none of those. `pack`: what is kept of a feature. Of a table of which it would show more than `most` features none is
+        kept."""
         if box is None and table.name not in self.boxes:
-            return views
+            yield from views
+            return
         box = box or (0, 0, WORLD, WORLD)
         boxes, shown = self.boxes.setdefault(table.name, ([], {}))
         if any(is_within(box, one) for one in boxes):
@@ -107,9 +112,13 @@ class Session:
         boxes.append(box)
         del boxes[:-MOST_BOXES]
         for view in views:
-            if view.number not in shown or (view.number, view.version) in self.fids:
-                shown[view.number] = view
-        return [shown[view.number] for view in views]
+            here = shown.get(view.number)
+            if here is None or (view.number, view.version) in self.fids:
+                here = shown[view.number] = pack(view)
+            if len(shown) > most:
+                boxes.clear()
+                shown.clear()
+            yield here.view() if here.version != view.version else view
 
     def count_shown(self):
         """Counts the features in its boxes. Returns how many more they are than before."""
@@ -127,6 +136,7 @@ class Sessions:
 
     def __init__(self):
         self.all, self.shown, self.swept = {}, 0, time.time()
+        self.most = MOST_SHOWN
 
     def get(self, name):
         """The session of a name, or a new one, which is only kept by `keep`: anybody can make up names."""
@@ -145,10 +155,10 @@ class Sessions:
         self.shown += session.count_shown()
         while len(self.all) > MOST_SESSIONS:
             self.drop(next((one for one, other in self.all.items() if not other.is_needed), next(iter(self.all))))
-        if self.shown > MOST_SHOWN:
+        if self.shown > self.most:
             for other in [one for one in self.all.values() if one.shown and one is not session]:
                 self.empty(other)
-                if self.shown <= MOST_SHOWN:
+                if self.shown <= self.most:
                     break
 
     def drop(self, name):

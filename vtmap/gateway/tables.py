@@ -5,7 +5,7 @@ import hashlib
 import secrets
 from collections import Counter, defaultdict
 from collections.abc import Iterable, Mapping
-from typing import List, NamedTuple
+from typing import TYPE_CHECKING, List, NamedTuple
 
 from ..client.edits import encoded
 from ..files.checkout_file import KINDS, ZOOMS, cell_of, form_of
@@ -14,6 +14,10 @@ from ..forms import Feature, Value
 from ..geometry.shapes import Box, bounds
 from ..geometry.wholes import Whole
 from .names import xml_name
+
+if TYPE_CHECKING:
+    from .far_map import FarMap
+    from .index import Summary
 
 # Columns that aren't tags.
 SHAPE, ID = "geom", "feature_id"
@@ -51,6 +55,10 @@ class View:
         """The table that it is in."""
         return self.layer, self.kind
 
+    def view(self) -> View:
+        """The feature, as a map that is held keeps it for a GIS."""
+        return self
+
 
 class Table:
     """The features of one kind of one layer. `columns`: the tag and the type of each, by its name. `further`: types of tags that a feature may get.
@@ -67,26 +75,40 @@ class Table:
         self.layer, self.kind = key
         self.rules, title = rules, rules.title if rules else None
         self.name, self.title = table_name(*key), f"{title or self.layer} ({KINDS[self.kind]})"
-        self.views = sorted(views, key=lambda view: view.number)
+        self.held = sorted(views, key=lambda view: view.number)
         values = defaultdict[str, List[Value]](list)
-        for view in self.views:
+        for view in self.held:
             for tag, value in view.feature["tags"].items():
                 values[tag].append(value)
         self.columns = named_columns({**past.forms, **(rules.forms() if rules else {}), **further, **{tag: form_of(values[tag]) for tag in values}})
-        self.is_several = self.kind != "points" or past.is_several or any(len(view.feature["geometry"][self.kind]) > 1 for view in self.views)
-        zooms = Counter(tuple(view.feature[zoom] for zoom in ZOOMS) for view in self.views)
+        self.is_several = self.kind != "points" or past.is_several or any(len(view.feature["geometry"][self.kind]) > 1 for view in self.held)
+        zooms = Counter(tuple(view.feature[zoom] for zoom in ZOOMS) for view in self.held)
         shown_at = zooms.most_common(1)[0][0] if zooms else past.zooms
         self.zooms: tuple[int, ...] = rules.zooms if rules and rules.zooms else shown_at
-        self.box = around([view.box for view in self.views]) if self.views else None
+        self.box = around([view.box for view in self.held]) if self.held else None
         self.form = self.is_several, tuple(self.columns.items())
+
+    @property
+    def views(self) -> Iterable[View]:
+        """All of its features, in the order of their ids."""
+        return self.held
+
+    @property
+    def count(self) -> int:
+        """How many features it has."""
+        return len(self.held)
 
     def past(self) -> Past:
         """What is kept of it once it has no feature."""
         return Past(dict(self.columns.values()), self.zooms, self.is_several)
 
-    def meeting(self, box: Box | None) -> list[View]:
+    def meeting(self, box: Box | None) -> Iterable[View]:
         """Its features in a box, all if that is None."""
-        return [view for view in self.views if box is None or meets(view.box, box)]
+        return [view for view in self.held if box is None or meets(view.box, box)]
+
+    def following(self, number: int) -> Iterable[View]:
+        """Its features after an id, in the order of their ids."""
+        return [view for view in self.held if view.number > number]
 
     def cell(self, view: View, name: str) -> int | str | None:
         """The value of a feature in a column: a number, a text or None."""
@@ -97,6 +119,50 @@ class Table:
         tag, form = self.columns.get(name, (None, "TEXT"))
         value = view.feature["tags"].get(tag)
         return value if form == "INTEGER" else text_of(value, form)
+
+
+class FarTable(Table):
+    """A table of a map that isn't held: its features are read as they are asked for. `live`: a `FarMap`. `summary`: what is known of them, None if it
+    has none."""
+
+    def __init__(
+        self,
+        live: FarMap,
+        key: tuple[str, str],
+        summary: Summary | None,
+        further: Mapping[str, str],
+        past: Past = NO_PAST,
+        rules: Layer | None = None,
+    ) -> None:
+        self.live, self.layer, self.kind = live, *key
+        self.rules, title = rules, rules.title if rules else None
+        self.name, self.title = table_name(*key), f"{title or self.layer} ({KINDS[self.kind]})"
+        forms = summary.forms if summary else {}
+        self.columns = named_columns({**past.forms, **(rules.forms() if rules else {}), **further, **forms})
+        self.is_several = self.kind != "points" or past.is_several or bool(summary and summary.is_several)
+        shown_at = summary.zooms.most_common(1)[0][0] if summary else past.zooms
+        self.zooms = rules.zooms if rules and rules.zooms else shown_at
+        self.box, self.features = (summary.box, summary.count) if summary else (None, 0)
+        self.form = self.is_several, tuple(self.columns.items())
+
+    @property
+    def count(self) -> int:
+        return self.features
+
+    @property
+    def views(self) -> Iterable[View]:
+        """All of its features, as they are read."""
+        return self.live.stream((self.layer, self.kind), None)
+
+    def meeting(self, box: Box | None) -> Iterable[View]:
+        return self.live.stream((self.layer, self.kind), box)
+
+    def following(self, number: int) -> Iterable[View]:
+        return self.live.stream((self.layer, self.kind), None, number + 1)
+
+    def within(self, box: Box, number: int) -> Iterable[View]:
+        """Its features in a box after an id."""
+        return self.live.stream((self.layer, self.kind), box, number + 1)
 
 
 def key_of_machine() -> bytes:

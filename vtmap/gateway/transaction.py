@@ -7,11 +7,11 @@ from ..commands.differences import told_change
 from ..faults import Refused
 from ..geometry.pieces import pieces_of
 from ..geometry.shapes import Unfit
-from ..geometry.wholes import PIECE
+from ..geometry.wholes import PIECE, Whole
 from ..shown import shown
 from .actions import is_given
 from .saves import Taken
-from .tables import version_of
+from .tables import View, version_of
 from .wishes import Wish, changed, fault_of_piece, new_feature
 
 # How often new features get other ids because somebody else was faster.
@@ -88,7 +88,7 @@ class Transaction:
     def new_id(self):
         """The next free id. Pieces of cut features have greater ones."""
         if self.free is None:
-            self.free = max((number for number in self.live.now if number < PIECE), default=0) + 1
+            self.free = self.live.greatest() + 1
         while self.free in self.live.now or self.free in self.wishes:
             self.free += 1
         return self.free
@@ -133,9 +133,9 @@ class Transaction:
         for wish in self.wishes.values():
             if wish.feature is None:
                 gone[wish.table].add(wish.number)
-        many = {table: numbers for table, numbers in gone.items() if are_many(len(numbers), len(table.views))}
+        many = {table: numbers for table, numbers in gone.items() if are_many(len(numbers), table.count)}
         if many and not self.session.says_again(frozenset().union(*many.values())):
-            told = ", ".join(f"{len(numbers):,} of the {len(table.views):,} features of {shown(table.title)}" for table, numbers in many.items())
+            told = ", ".join(f"{len(numbers):,} of the {table.count:,} features of {shown(table.title)}" for table, numbers in many.items())
             raise Doubted(f"nothing of this was saved: it deletes {told}. {MEANT if has_name else MEANT_ALONE}")
 
     # ---- making it
@@ -187,7 +187,7 @@ class Transaction:
                 continue
             # The version that was saved: somebody else may have made another one since.
             version = version_of(wish.wanted)
-            self.live.remember(number, version, wish.feature)
+            self.live.remember(View(Whole(number, wish.feature, wish.wanted)))
             fid = wish.fid or self.session.fid(wish.table, number, version)
             fids[wish] = fid
             notes += self.session.saved(fid, wish.table, number, wish.base and self.versions[number], version)

@@ -1,19 +1,27 @@
 """The requests of WFS, answered. Needs no package."""
+from __future__ import annotations
+
 import hashlib
 import re
 import secrets
 import threading
+from collections.abc import Callable, Iterable, Iterator
+from xml.etree.ElementTree import Element
 
 from ..faults import Refused, Stopped
 from ..files.save_log import Unwritable
 from ..geometry.gml import SYSTEM, local
+from ..geometry.shapes import Box
 from ..shown import shown
 from . import wfs_texts
 from .actions import OF_IDS, actions_of, parsed, type_in
-from .filters import box_of, test_of
+from .far_replies import FarReply
+from .filters import box_of, box_within, ids_within, test_of
+from .sessions import Session
+from .tables import FarTable, Table, View, meets
 from .transaction import AGAIN, Conflict, Doubted, Transaction, is_there
-from .wfs_requests import (BY_ID, BY_ID_NAMES, CAPABILITIES, DESCRIBED, LISTED, READS, SCHEMA, VALUES, Invalid, columns_in, given_in, in_order, invalid,
-                           name_in, request_of, see_column, see_format, version_of)
+from .wfs_requests import (BY_ID, BY_ID_NAMES, CAPABILITIES, DESCRIBED, FEATURES, LISTED, READS, SCHEMA, VALUES, Given, Invalid, columns_in,
+                           given_in, in_order, invalid, name_in, request_of, see_column, see_format, version_of)
 from .wfs_texts import V2
 
 # The most elements of a filter, beside ids; the bytes of the name of a session; and an id of a feature without its version.
@@ -59,25 +67,26 @@ class Wfs:
         queries = queries or [given]
         if any("storedquery_id" in query for query in queries):
             return self.by_id(version, name, given, queries, request == VALUES)
-        found, fids, matched = self.found(name, given, [self.chosen(name, query, tables) for query in queries])
+        chosen = [self.chosen(name, query, tables) for query in queries]
+        wanted = {}
+        for query in queries if request == FEATURES else ():
+            wanted.update(columns_in(query.get("propertyname"), named_tables(query, tables)))
+        if self.live.is_far:
+            return FarReply(self, version, name, given, chosen).made(request == VALUES, wanted)
+        found, fids, matched = self.found(name, given, chosen)
         if request == VALUES:
             return values(given.get("valuereference"), found, fids, matched)
-        wanted = {}
-        for query in queries:
-            wanted.update(columns_in(query.get("propertyname"), named_tables(query, tables)))
         return wfs_texts.features(version, found, fids, matched, wanted)
 
     def chosen(self, name, query, tables):
         """The views of each table that a query asks for, in their order; whether it names nothing but a box, and that box."""
         see_system(query.get("srsname"))
-        made, is_plain = chosen_in(self.sessions.get(name), query, named_tables(query, tables))
+        made, is_plain = chosen_in(self.sessions.get(name), query, named_tables(query, tables), self.live.is_far)
         return [(table, in_order(views, query.get("sortby"), table)) for table, views in made], is_plain, box_of(query.get("bbox"))
 
     def found(self, name, given, chosen):
         """The features that queries ask for, as pairs of table and view, with their ids, and how many there are with those that aren't returned."""
-        if given.get("resulttype", "results").lower() not in ("results", "hits"):
-            raise invalid("resultType", f"RESULTTYPE {given['resulttype']} isn't known: results and hits are")
-        if given.get("resulttype", "").lower() == "hits":
+        if is_counted(given):
             return [], [], sum(len(views) for tables, _, _ in chosen for _, views in tables)
         with self.live.lock:
             session = self.sessions.get(name)
@@ -90,7 +99,7 @@ class Wfs:
     def give(self, name, session, found):
         """Notes that a GIS gets features. Returns their ids. Whoever calls it holds the lock."""
         for _, view in found:
-            self.live.remember(view.number, view.version, view.feature)
+            self.live.remember(view)
         session.give(found)
         fids = [session.fid(table, view.number, view.version) for table, view in found]
         self.sessions.keep(name, session)
@@ -185,15 +194,55 @@ class Wfs:
         return task.counts, added
 
 
-def chosen_in(session, given, tables):
-    """The views of each table that a request asks for, and whether it names nothing but a box."""
+def is_counted(given: Given) -> bool:
+    """Whether features are to be counted alone."""
+    if given.get("resulttype", "results").lower() not in ("results", "hits"):
+        raise invalid("resultType", f"RESULTTYPE {given['resulttype']} isn't known: results and hits are")
+    return given.get("resulttype", "").lower() == "hits"
+
+
+def chosen_in(session, given, tables, is_far=False):
+    """The views of each table that a request asks for, and whether it names nothing but a box. Where the map isn't held, they are read as they are
+    needed, those of ids one by one, and those in a box that a filter asks for by that box."""
     box, fids = box_of(given.get("bbox")), given.get("featureid", given.get("resourceid"))
     wanted = {session.held(fid)[0] for fid in fids.split(",")} if fids else None
     asked, made = filter_in(given.get("filter")), []
+    if is_far:
+        return [(table, far_views(session, table, box, wanted, asked)) for table in tables], wanted is None and asked is None
     for table in tables:
         test = test_of(asked, table, session) if asked is not None else None
         made.append((table, [view for view in table.meeting(box) if (wanted is None or view.number in wanted) and (test is None or test(view))]))
     return made, wanted is None and asked is None
+
+
+def far_views(session: Session, table: FarTable, box: Box | None, wanted: set[int] | None, asked: Element | None) -> Far:
+    """The views of a table of a map that isn't held that a request asks for."""
+    test = test_of(asked, table, session) if asked is not None else None
+    inner = box_within(asked) if asked is not None else None
+    numbers = ids_within(asked, session) if asked is not None else None
+    numbers = numbers if wanted is None else wanted if numbers is None else wanted & numbers
+
+    def read() -> Iterator[View]:
+        if numbers is not None:
+            found = (table.live.views.get(number) for number in sorted(numbers))
+            views: Iterable[View] = (view for view in found if view is not None and view.key == (table.layer, table.kind))
+        else:
+            views = table.meeting(inner if box is None else box)
+        for view in views:
+            if (box is None or meets(view.box, box)) and (test is None or test(view)):
+                yield view
+
+    return Far(table, read, table.count if box is None and wanted is None and asked is None else None)
+
+
+class Far:
+    """Views that are read each time that they are gone through. `count`: how many they are, None if that isn't known before."""
+
+    def __init__(self, table: FarTable, read: Callable[[], Iterator[View]], count: int | None) -> None:
+        self.table, self.read, self.count = table, read, count
+
+    def __iter__(self) -> Iterator[View]:
+        return self.read()
 
 
 def filter_in(said):
@@ -228,15 +277,22 @@ def stored(request, given, tables):
 
 def values(name, found, fids, matched):
     """The reply with the values of one property of features."""
+    see_value(name, {table.name: table for table, _ in found}.values())
+    if name.startswith("@"):
+        return wfs_texts.values(fids, matched)
+    return wfs_texts.values(wfs_texts.cells(found, name_in(name)), matched)
+
+
+def see_value(name: str | None, tables: Iterable[Table]) -> None:
+    """Refuses the name of a property that features of these tables don't have."""
     if not name:
         raise Invalid("MissingParameterValue", "valueReference", "it doesn't say of which property")
     if name.startswith("@"):
         if name != "@gml:id":
             raise invalid("valueReference", f"no feature has {name}")
-        return wfs_texts.values(fids, matched)
-    for table in {table.name: table for table, _ in found}.values():
+        return
+    for table in tables:
         see_column(name_in(name), table, "valueReference")
-    return wfs_texts.values(wfs_texts.cells(found, name_in(name)), matched)
 
 
 def named_tables(given, tables):

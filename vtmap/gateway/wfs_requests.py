@@ -1,8 +1,9 @@
 """What a request of WFS asks, by its parameters or by its XML. Needs no package."""
 from __future__ import annotations
 
+import itertools
 import re
-from collections.abc import Collection, Mapping
+from collections.abc import Collection, Iterable, Mapping
 from typing import Any, Dict
 from xml.etree.ElementTree import Element
 
@@ -28,6 +29,8 @@ FORMATS = {V2: ("application/gmlxml;version=3.2", "text/xml;subtype=gml/3.2", "t
 Given = Dict[str, Any]
 # The most queries of a request, and the most properties by which features are sorted.
 MOST_QUERIES, MOST_SORTS = 50, 10
+# The most features of a map that isn't held that are sorted.
+MOST_SORTED = 10_000
 DOWN = {"A": False, "ASC": False, "D": True, "DESC": True}
 # The attributes of a request by XML, and of a query in it, by the names of parameters.
 OF_REQUEST = {"version": "version", "service": "service", "outputFormat": "outputformat", "count": "count", "maxFeatures": "maxfeatures",
@@ -176,9 +179,14 @@ def see_column(name: str, table: Table, locator: str) -> None:
         raise invalid(locator, f"{table.name} has no property {name}")
 
 
-def in_order(views: list[View], text: str | None, table: Table) -> list[View]:
+def in_order(views: Iterable[View], text: str | None, table: Table) -> Iterable[View]:
     """Views of a table, sorted as the parameter SORTBY says: what has no value comes last. Equal ones stay in the order of their ids."""
     parts = [part.split() for part in re.split(r"[,()]", text or "") if part.strip()]
+    if parts and not isinstance(views, list):
+        # Of a map that isn't held.
+        views = list(itertools.islice(views, MOST_SORTED + 1))
+        if len(views) > MOST_SORTED:
+            raise invalid("sortBy", f"SORTBY of over {MOST_SORTED:,} features isn't taken of a map of this size: name a box, or a filter")
     if len(parts) > MOST_SORTS:
         raise invalid("sortBy", f"SORTBY has at most {MOST_SORTS} properties")
     for part in reversed(parts):

@@ -134,12 +134,17 @@ def features(
 ) -> str:
     """Features: pairs of table and view, and their ids. `matched`: how many there are with those that aren't returned. `wanted`: which columns of each
     table are written, by its name; None for all."""
-    counts = {"numberMatched": matched, "numberReturned": len(found)} if version is V2 else {"numberOfFeatures": len(found) or matched}
-    attributes: dict[str, object] = {**spaces(version), "timeStamp": now()}
-    whole = "wfs:FeatureCollection", {**attributes, **counts}
     rows = {table.name: Rows(version, table, (wanted or {}).get(table.name)) for table in {table.name: table for table, _ in found}.values()}
     members = [rows[table.name].member(view, fid) for (table, view), fid in zip(found, fids)]
-    return Frame(whole, *(["gml:featureMembers"] if members and version is V1 else [])).document(members)
+    return frame_of(version, matched, len(found)).document(members)
+
+
+def frame_of(version: Version, matched: int | str, returned: int) -> Frame:
+    """What is around features. `matched`: how many there are with those that aren't returned."""
+    counts = {"numberMatched": matched, "numberReturned": returned} if version is V2 else {"numberOfFeatures": returned or matched}
+    attributes: dict[str, object] = {**spaces(version), "timeStamp": now()}
+    whole = "wfs:FeatureCollection", {**attributes, **counts}
+    return Frame(whole, *(["gml:featureMembers"] if returned and version is V1 else []))
 
 
 def now() -> str:
@@ -158,10 +163,21 @@ def cells(found: Iterable[Found], name: str) -> list[Xml]:
     return [cell for columns in made for cell in columns]
 
 
+def parts_of(table: Table, view: View, fid: str, name: str) -> Sequence[object]:
+    """The values of a property of a feature, as `values` takes them."""
+    if name.startswith("@"):
+        return [fid]
+    return Rows(V2, table, frozenset([name.strip().split("/")[-1].rpartition(":")[2]])).columns(view)
+
+
 def values(parts: Sequence[object], matched: int) -> str:
     """Values of a property: elements, or texts."""
-    members = [element("wfs:member", part) for part in parts]
-    return Frame(("wfs:ValueCollection", {**spaces(V2), "timeStamp": now(), "numberMatched": matched, "numberReturned": len(parts)})).document(members)
+    return frame_of_values(matched, len(parts)).document([element("wfs:member", part) for part in parts])
+
+
+def frame_of_values(matched: int | str, returned: int) -> Frame:
+    """What is around values of a property."""
+    return Frame(("wfs:ValueCollection", {**spaces(V2), "timeStamp": now(), "numberMatched": matched, "numberReturned": returned}))
 
 
 class Rows:

@@ -1,0 +1,216 @@
+"""The part `wfs-far` of run.py: a map that the gateway doesn't hold, but reads by boxes, is answered as one that it
+holds. The server's boxes are those of a stand-in (box_stand_in.py) if the program has none."""
+import json
+import os
+import random
+import re
+import subprocess
+import time
+from contextlib import ExitStack
+
+
+from .box_stand_in import Boxes
+from .gateways import Gateway, Gis, edits_at, feature_at, map_at, point, put_at, text_of
+from .pages import town
+from .stand import VTMAP, Cases, Server, curl, feature, status_of
+
+ASKED = "/wfs?SERVICE=WFS&VERSION=2.0.0&REQUEST="
+LAYERS = ["building.areas", "land.areas", "park.areas", "place.points", "road.lines"]
+# A box in the town, in metres, and its world.
+TOWN, HALF = (833000, 7262000, 837000, 7268000), 20037508
+HAS = "/admin/features/box/0,0,0,0/from/9223372036854775807"
+# The most memory of a gateway with a map of very many points, and how many these are.
+MOST_MB, MANY = 200, int(os.environ.get("FAR_FEATURES", "20000"))
+
+
+def wfs_far(cases: Cases, folder: str) -> None:
+    """All of it."""
+    folder = os.path.join(folder, "wfs-far")
+    os.mkdir(folder)
+    with ExitStack() as stack:
+        server = stack.enter_context(Server(folder, "town", sectors=16384))
+        town(folder, server.url)
+        cut(cases, folder, server)
+        url = boxes_of(cases, stack, server)
+        far = stack.enter_context(Gateway(folder, url, "--held", "0"))
+        held = stack.enter_context(Gateway(folder, server.url, "--held", "1000000"))
+        told = [[line.endswith("as they are asked for") for line in one.told if "the map has" in line] for one in (far, held)]
+        cases.show("wfs-far: one reads boxes, and the other holds the map", told, [[True], [False]])
+        Both(cases, server, far, held).all()
+        without(cases, folder, server)
+    large(cases, folder)
+
+
+def boxes_of(cases: Cases, stack: ExitStack, server: Server) -> str:
+    """The address of a server with boxes: its own, or that of a stand-in in front of it."""
+    if status_of(curl(server.url + HAS)) == 200:
+        return server.url
+    cases.say("the program has no boxes: a stand-in makes them")
+    return stack.enter_context(Boxes(server)).url
+
+
+def cut(cases: Cases, folder: str, server: Server) -> None:
+    """The pieces of cut features: a line of three, one of which has lost its first piece, and an area with an outline."""
+    for number, line, whole in ((5000, [[9, 9], [500, 9]], 5000), (5000 + 2**40, [[500, 9], [900, 90]], 5000),
+                                (5000 + 2**41, [[900, 90], [999, 5000]], 5000), (6000 + 2**40, [[7, 7], [8, 8]], 6000)):
+        made = feature("cut", geometry={"lines": [line]}, tags={"whole": whole, "name": "long"})
+        curl(f"{server.url}/features/{number}", "-X", "PUT", body=made)
+
+
+class Both:
+    """Two gateways of one map, which are to say the same."""
+
+    def __init__(self, cases: Cases, server: Server, far: Gateway, held: Gateway) -> None:
+        self.cases, self.server, self.far, self.held = cases, server, far, held
+
+    def show(self, name: str, found: object, wanted: object) -> None:
+        self.cases.show(f"wfs-far: {name}", found, wanted)
+
+    def alike(self, name: str, path: str) -> None:
+        """Sees that both say the same."""
+        found = [self.said(gateway, path) for gateway in (self.far, self.held)]
+        self.show(f"{name}: both say the same", found[0] if found[0] != found[1] else len(found[0]),
+                  found[1] if found[0] != found[1] else len(found[1]))
+
+    def said(self, gateway: Gateway, path: str) -> str:
+        """What one says, without what differs between any two replies."""
+        text = text_of(gateway.url + path).replace(gateway.url, "URL")
+        text = re.sub(r'timeStamp"?[=:]"[^"]*"', "", re.sub("/wfs/[0-9a-f]{10}", "/wfs/SESSION", text))
+        return text.replace("\n", "")
+
+    def all(self) -> None:
+        self.reads()
+        self.random_boxes()
+        self.saves()
+        self.pans()
+        self.follows()
+
+    def reads(self) -> None:
+        self.alike("capabilities", ASKED + "GetCapabilities")
+        self.alike("schema", ASKED + "DescribeFeatureType")
+        for layer in (*LAYERS, "cut.lines"):
+            path = f"{ASKED}GetFeature&TYPENAMES=v:{layer}"
+            self.alike(f"all of {layer}", path)
+            self.alike(f"a part of {layer}", path + "&COUNT=7&STARTINDEX=3")
+            self.alike(f"how many of {layer}", path + "&RESULTTYPE=hits")
+            self.alike(f"values of {layer}", path.replace("GetFeature", "GetPropertyValue") + "&VALUEREFERENCE=name"
+                       if layer not in ("building.areas",) else ASKED + "GetPropertyValue&VALUEREFERENCE=floors&TYPENAMES=v:" + layer)
+            self.alike(f"items of {layer}", f"/ogc/collections/{layer}/items?limit=5")
+            self.alike(f"the next items of {layer}", f"/ogc/collections/{layer}/items?limit=5&after=140")
+            self.alike(f"{layer} as CSV", f"/ogc/collections/{layer}/items?f=csv")
+            self.alike(f"the collection {layer}", f"/ogc/collections/{layer}")
+        self.alike("all of the map, WFS 1.1", "/wfs?SERVICE=WFS&VERSION=1.1.0&REQUEST=GetFeature")
+        self.alike("sorted", ASKED + "GetFeature&TYPENAMES=v:building.areas&SORTBY=floors%20DESC,house&COUNT=20")
+        self.alike("by an id", ASKED + "GetFeature&STOREDQUERY_ID=urn:ogc:def:query:OGC-WFS::GetFeatureById&ID=place.points.452")
+        self.alike("one item", "/ogc/collections/place.points/items/452")
+        self.alike("an item that isn't there", ASKED + "GetFeature&STOREDQUERY_ID=urn:ogc:def:query:OGC-WFS::GetFeatureById&ID=place.points.9")
+        self.alike("an attribute", "/ogc/collections/building.areas/items?floors=2")
+        for text in ("<PropertyIsGreaterThan><ValueReference>floors</ValueReference><Literal>2</Literal></PropertyIsGreaterThan>",
+                     "<PropertyIsNull><ValueReference>house</ValueReference></PropertyIsNull>"):
+            self.alike("a filter", f"{ASKED}GetFeature&TYPENAMES=v:building.areas&FILTER=<Filter>{text}</Filter>".replace(" ", "%20"))
+        self.alike("nothing like that", ASKED + "GetFeature&TYPENAMES=v:nowhere.points")
+
+    def random_boxes(self) -> None:
+        """Boxes in the town, and in the world."""
+        dice = random.Random(7)
+        for at in range(30):
+            wide = [TOWN, (-HALF, -HALF, HALF, HALF), (-HALF, HALF - 60, -HALF + 60, HALF)][at % 3]
+            xs, ys = sorted(dice.uniform(wide[0], wide[2]) for _ in "ab"), sorted(dice.uniform(wide[1], wide[3]) for _ in "ab")
+            box = f"{xs[0]:.3f},{ys[0]:.3f},{xs[1]:.3f},{ys[1]:.3f}"
+            self.alike(f"box {at}", f"{ASKED}GetFeature&BBOX={box},EPSG:3857")
+
+    # ---- saving
+
+    def gis(self, layer: str, **given: object) -> Gis:
+        """A layer that is loaded from the gateway that reads boxes."""
+        made = Gis(self.far, layer)
+        made.rows(**given)
+        return made
+
+    def saves(self) -> None:
+        gis, edits = self.gis("place.points"), edits_at(self.server.url)
+        told = gis.save(gis.update(452, name="Old"), gis.insert(point(835001.0, 7265001.0), name="New"), gis.delete(453))
+        number = int(told.split(".")[2]) if told.startswith("SUCCESS") else 0
+        found = [feature_at(self.server.url, one) for one in (452, number, 453)]
+        self.show("a save", ([one and one["tags"] for one in found], edits_at(self.server.url)),
+                  ([{"name": "Old"}, {"name": "New"}, None], edits + 1))
+        self.show("the same insert again is that one", gis.save(gis.insert(point(835001.0, 7265001.0), name="New")).split()[0], "SUCCESS")
+        put_at(self.server.url, 454, name="theirs")
+        told = gis.save(gis.update(454, name="mine"))
+        self.show("a conflict, and what they changed", ("place 454" in told and "theirs" in told, feature_at(self.server.url, 454)["tags"]),
+                  (True, {"name": "theirs"}))
+        gis.anew()
+        self.show("after F5 it is put over theirs", (gis.save(gis.update(454, name="mine")), feature_at(self.server.url, 454)["tags"]),
+                  ("SUCCESS", {"name": "mine"}))
+        long = self.gis("cut.lines")
+        self.show("a cut feature is saved as one", long.save(long.update(5000, name="longer")), "SUCCESS")
+        names = {number: one["tags"]["name"] for number, one in map_at(self.server.url).items() if one["layer"] == "cut"}
+        self.show("and all of its pieces have it", names, {
+            5000: "longer", 5000 + 2**40: "longer", 5000 + 2**41: "longer", 6000 + 2**40: "long"})
+        many = self.gis("building.areas")
+        told = many.save(*[many.delete(number) for number in list(many.fids)[:200]])
+        self.show("most of a layer isn't deleted unasked", "200 of the 318 features" in told, True)
+        self.alike("after all of it, the map", ASKED + "GetFeature")
+
+    def pans(self) -> None:
+        """Who pans gets no second version of a feature, and F5 shows the new one."""
+        gis = Gis(self.far, "place.points")
+        gis.rows(BBOX="834000,7260000,836000,7268000,EPSG:3857")
+        put_at(self.server.url, 451, name="since")
+        rows = gis.rows(BBOX="834000,7260000,837000,7268000,EPSG:3857")
+        self.show("who pans gets no second version", rows[451]["name"], "Town Hall")
+        rows = gis.anew(BBOX="834000,7260000,836000,7268000,EPSG:3857")
+        self.show("after F5 the new one", rows[451]["name"], "since")
+
+    def follows(self) -> None:
+        """New layers and fields, deletions, and a layer that loses its last feature."""
+        for number, layer, tags in ((9001, "fresh", {"a": 1}), (9002, "fresh", {"b": True}), (452, "place", {"name": "x", "more": "y"})):
+            was = feature_at(self.server.url, number) or json.loads(feature(layer))
+            curl(f"{self.server.url}/features/{number}", "-X", "PUT", body=json.dumps({**was, "layer": layer, "tags": tags}))
+        self.alike("new fields and layers", ASKED + "DescribeFeatureType")
+        self.alike("features of them", ASKED + "GetFeature")
+        for number in (9001, 9002, 5000):
+            curl(f"{self.server.url}/features/{number}", "-X", "DELETE")
+        self.alike("a layer that has lost its last feature, and pieces without the first one", ASKED + "GetFeature")
+        self.alike("and what is told of it", ASKED + "GetCapabilities")
+
+
+def without(cases: Cases, folder: str, server: Server) -> None:
+    """A server without boxes, and a small map, are held whole."""
+    with ExitStack() as stack:
+        if status_of(curl(server.url + HAS)) == 404:
+            gateway = stack.enter_context(Gateway(folder, server.url, "--held", "0"))
+            told = [line for line in gateway.told if "the map has" in line]
+            cases.show("wfs-far: a server without boxes", [line.endswith("asked for") for line in told], [False])
+        gateway = stack.enter_context(Gateway(folder, boxes_of(cases, stack, server)))
+        told = [line for line in gateway.told if "the map has" in line]
+        cases.show("wfs-far: a small map", [line.endswith("asked for") for line in told], [False])
+
+
+def large(cases: Cases, folder: str) -> None:
+    """The memory of a gateway with a map of many points, of which somebody loads all."""
+    with ExitStack() as stack:
+        server = stack.enter_context(Server(folder, "many", sectors=262144))
+        path = os.path.join(folder, "many.geojson")
+        with open(path, "w", encoding="utf-8") as file:
+            for at in range(MANY):
+                place = [7 + at % 1000 / 1000, 54 + at // 1000 / 5000]
+                tags = {"name": f"point {at}", "height": at % 90, "kind": "tree"}
+                file.write(json.dumps({"type": "Feature", "id": at + 1, "properties": tags,
+                                       "geometry": {"type": "Point", "coordinates": place}}) + "\n")
+        words = [*VTMAP, "import", path, "--layer", "tree", "--minzoom", "14", "--maxzoom", "14", "--url", server.url]
+        subprocess.run(words, check=True, capture_output=True)
+        gateway = stack.enter_context(Gateway(folder, boxes_of(cases, stack, server)))
+        began, gis = time.monotonic(), Gis(gateway, "tree.points")
+        count = gis.get("GetFeature").count("<v:feature_id>")
+        cases.show(f"wfs-far: all of {MANY:,} points", count, MANY)
+        cases.say(f"in {time.monotonic() - began:.1f} s, {memory_of(gateway)} MB at most")
+        found = gis.rows(BBOX="779236,7157000,790000,7160000,EPSG:3857")
+        cases.show("wfs-far: a box of them", 0 < len(found) < MANY, True)
+        cases.show(f"wfs-far: within {MOST_MB} MB", memory_of(gateway) < MOST_MB, True)
+
+
+def memory_of(gateway: Gateway) -> int:
+    """The most memory that a process has had, in MB."""
+    with open(f"/proc/{gateway.child.pid}/status", encoding="ascii") as file:
+        return int(re.search(r"VmHWM:\s+(\d+)", file.read())[1]) >> 10  # type: ignore[index]
