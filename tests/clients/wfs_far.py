@@ -30,15 +30,20 @@ def wfs_far(cases: Cases, folder: str) -> None:
     with ExitStack() as stack:
         server = stack.enter_context(Server(folder, "town", sectors=16384))
         town(folder, server.url)
-        cut(cases, folder, server)
+        cut(server)
         url = boxes_of(cases, stack, server)
         far = stack.enter_context(Gateway(folder, url, "--held", "0"))
         held = stack.enter_context(Gateway(folder, server.url, "--held", "1000000"))
-        told = [[line.endswith("as they are asked for") for line in one.told if "the map has" in line] for one in (far, held)]
+        told = [is_far(far), is_far(held)]
         cases.show("wfs-far: one reads boxes, and the other holds the map", told, [[True], [False]])
         Both(cases, server, far, held).all()
         without(cases, folder, server)
     large(cases, folder)
+
+
+def is_far(gateway: Gateway) -> list[bool]:
+    """Whether a gateway says that it reads boxes, for each time that it has listed the map."""
+    return [line.endswith("as they are asked for") for line in gateway.told if "the map has" in line]
 
 
 def boxes_of(cases: Cases, stack: ExitStack, server: Server) -> str:
@@ -49,10 +54,15 @@ def boxes_of(cases: Cases, stack: ExitStack, server: Server) -> str:
     return stack.enter_context(Boxes(server)).url
 
 
-def cut(cases: Cases, folder: str, server: Server) -> None:
-    """The pieces of cut features: a line of three, one of which has lost its first piece, and an area with an outline."""
-    for number, line, whole in ((5000, [[9, 9], [500, 9]], 5000), (5000 + 2**40, [[500, 9], [900, 90]], 5000),
-                                (5000 + 2**41, [[900, 90], [999, 5000]], 5000), (6000 + 2**40, [[7, 7], [8, 8]], 6000)):
+def cut(server: Server) -> None:
+    """The pieces of cut features: a line of three pieces, and a piece of one that has lost its first one."""
+    pieces = [
+        (5000, [[9, 9], [500, 9]], 5000),
+        (5000 + 2**40, [[500, 9], [900, 90]], 5000),
+        (5000 + 2**41, [[900, 90], [999, 5000]], 5000),
+        (6000 + 2**40, [[7, 7], [8, 8]], 6000),
+    ]
+    for number, line, whole in pieces:
         made = feature("cut", geometry={"lines": [line]}, tags={"whole": whole, "name": "long"})
         curl(f"{server.url}/features/{number}", "-X", "PUT", body=made)
 
@@ -68,9 +78,10 @@ class Both:
 
     def alike(self, name: str, path: str) -> None:
         """Sees that both say the same."""
-        found = [self.said(gateway, path) for gateway in (self.far, self.held)]
-        self.show(f"{name}: both say the same", found[0] if found[0] != found[1] else len(found[0]),
-                  found[1] if found[0] != found[1] else len(found[1]))
+        far, held = (self.said(gateway, path) for gateway in (self.far, self.held))
+        at = next((at for at, (one, other) in enumerate(zip(far, held)) if one != other), min(len(far), len(held)))
+        place = slice(max(at - 40, 0), at + 200)
+        self.show(f"{name}: both say the same", (far[place], len(far)), (held[place], len(held)))
 
     def said(self, gateway: Gateway, path: str) -> str:
         """What one says, without what differs between any two replies."""
@@ -93,21 +104,24 @@ class Both:
             self.alike(f"all of {layer}", path)
             self.alike(f"a part of {layer}", path + "&COUNT=7&STARTINDEX=3")
             self.alike(f"how many of {layer}", path + "&RESULTTYPE=hits")
-            self.alike(f"values of {layer}", path.replace("GetFeature", "GetPropertyValue") + "&VALUEREFERENCE=name"
-                       if layer not in ("building.areas",) else ASKED + "GetPropertyValue&VALUEREFERENCE=floors&TYPENAMES=v:" + layer)
+            values = path.replace("GetFeature", "GetPropertyValue")
+            self.alike(f"values of {layer}", values + "&VALUEREFERENCE=feature_id")
             self.alike(f"items of {layer}", f"/ogc/collections/{layer}/items?limit=5")
             self.alike(f"the next items of {layer}", f"/ogc/collections/{layer}/items?limit=5&after=140")
             self.alike(f"{layer} as CSV", f"/ogc/collections/{layer}/items?f=csv")
             self.alike(f"the collection {layer}", f"/ogc/collections/{layer}")
         self.alike("all of the map, WFS 1.1", "/wfs?SERVICE=WFS&VERSION=1.1.0&REQUEST=GetFeature")
-        self.alike("sorted", ASKED + "GetFeature&TYPENAMES=v:building.areas&SORTBY=floors%20DESC,house&COUNT=20")
-        self.alike("by an id", ASKED + "GetFeature&STOREDQUERY_ID=urn:ogc:def:query:OGC-WFS::GetFeatureById&ID=place.points.452")
+        buildings = ASKED + "GetFeature&TYPENAMES=v:building.areas"
+        self.alike("sorted", buildings + "&SORTBY=floors%20DESC,house&COUNT=20")
+        by_id = ASKED + "GetFeature&STOREDQUERY_ID=urn:ogc:def:query:OGC-WFS::GetFeatureById&ID=place.points."
+        self.alike("by an id", by_id + "452")
         self.alike("one item", "/ogc/collections/place.points/items/452")
-        self.alike("an item that isn't there", ASKED + "GetFeature&STOREDQUERY_ID=urn:ogc:def:query:OGC-WFS::GetFeatureById&ID=place.points.9")
+        self.alike("an id that isn't there", by_id + "9")
         self.alike("an attribute", "/ogc/collections/building.areas/items?floors=2")
-        for text in ("<PropertyIsGreaterThan><ValueReference>floors</ValueReference><Literal>2</Literal></PropertyIsGreaterThan>",
-                     "<PropertyIsNull><ValueReference>house</ValueReference></PropertyIsNull>"):
-            self.alike("a filter", f"{ASKED}GetFeature&TYPENAMES=v:building.areas&FILTER=<Filter>{text}</Filter>".replace(" ", "%20"))
+        more = "<ValueReference>floors</ValueReference><Literal>2</Literal>"
+        null = "<PropertyIsNull><ValueReference>house</ValueReference></PropertyIsNull>"
+        for text in (f"<PropertyIsGreaterThan>{more}</PropertyIsGreaterThan>", null):
+            self.alike("a filter", f"{buildings}&FILTER=<Filter>{text}</Filter>")
         self.alike("nothing like that", ASKED + "GetFeature&TYPENAMES=v:nowhere.points")
 
     def random_boxes(self) -> None:
@@ -115,7 +129,7 @@ class Both:
         dice = random.Random(7)
         for at in range(30):
             wide = [TOWN, (-HALF, -HALF, HALF, HALF), (-HALF, HALF - 60, -HALF + 60, HALF)][at % 3]
-            xs, ys = sorted(dice.uniform(wide[0], wide[2]) for _ in "ab"), sorted(dice.uniform(wide[1], wide[3]) for _ in "ab")
+            xs, ys = (sorted(dice.uniform(wide[axis], wide[axis + 2]) for _ in "ab") for axis in (0, 1))
             box = f"{xs[0]:.3f},{ys[0]:.3f},{xs[1]:.3f},{ys[1]:.3f}"
             self.alike(f"box {at}", f"{ASKED}GetFeature&BBOX={box},EPSG:3857")
 
@@ -129,22 +143,25 @@ class Both:
 
     def saves(self) -> None:
         gis, edits = self.gis("place.points"), edits_at(self.server.url)
-        told = gis.save(gis.update(452, name="Old"), gis.insert(point(835001.0, 7265001.0), name="New"), gis.delete(453))
+        new = gis.insert(point(835001.0, 7265001.0), name="New")
+        told = gis.save(gis.update(452, name="Old"), new, gis.delete(453))
         number = int(told.split(".")[2]) if told.startswith("SUCCESS") else 0
         found = [feature_at(self.server.url, one) for one in (452, number, 453)]
-        self.show("a save", ([one and one["tags"] for one in found], edits_at(self.server.url)),
-                  ([{"name": "Old"}, {"name": "New"}, None], edits + 1))
-        self.show("the same insert again is that one", gis.save(gis.insert(point(835001.0, 7265001.0), name="New")).split()[0], "SUCCESS")
+        tags = [one and one["tags"] for one in found]
+        wanted = [{"name": "Old"}, {"name": "New"}, None]
+        self.show("a save is one edit", (tags, edits_at(self.server.url)), (wanted, edits + 1))
         put_at(self.server.url, 454, name="theirs")
         told = gis.save(gis.update(454, name="mine"))
-        self.show("a conflict, and what they changed", ("place 454" in told and "theirs" in told, feature_at(self.server.url, 454)["tags"]),
-                  (True, {"name": "theirs"}))
+        tags = feature_at(self.server.url, 454)["tags"]
+        is_told = "place 454" in told and "theirs" in told
+        self.show("a conflict, and what they changed", (is_told or told, tags), (True, {"name": "theirs"}))
         gis.anew()
-        self.show("after F5 it is put over theirs", (gis.save(gis.update(454, name="mine")), feature_at(self.server.url, 454)["tags"]),
-                  ("SUCCESS", {"name": "mine"}))
+        told, tags = gis.save(gis.update(454, name="mine")), feature_at(self.server.url, 454)["tags"]
+        self.show("after F5 it is put over theirs", (told, tags), ("SUCCESS", {"name": "mine"}))
         long = self.gis("cut.lines")
         self.show("a cut feature is saved as one", long.save(long.update(5000, name="longer")), "SUCCESS")
-        names = {number: one["tags"]["name"] for number, one in map_at(self.server.url).items() if one["layer"] == "cut"}
+        there = map_at(self.server.url).items()
+        names = {number: one["tags"]["name"] for number, one in there if one["layer"] == "cut"}
         self.show("and all of its pieces have it", names, {
             5000: "longer", 5000 + 2**40: "longer", 5000 + 2**41: "longer", 6000 + 2**40: "long"})
         many = self.gis("building.areas")
@@ -164,9 +181,13 @@ class Both:
 
     def follows(self) -> None:
         """New layers and fields, deletions, and a layer that loses its last feature."""
-        for number, layer, tags in ((9001, "fresh", {"a": 1}), (9002, "fresh", {"b": True}), (452, "place", {"name": "x", "more": "y"})):
+        made: list[tuple[int, str, dict[str, object]]] = [
+            (9001, "fresh", {"a": 1}), (9002, "fresh", {"b": True}), (452, "place", {"name": "x", "more": "y"})
+        ]
+        for number, layer, tags in made:
             was = feature_at(self.server.url, number) or json.loads(feature(layer))
-            curl(f"{self.server.url}/features/{number}", "-X", "PUT", body=json.dumps({**was, "layer": layer, "tags": tags}))
+            body = json.dumps({**was, "layer": layer, "tags": tags})
+            curl(f"{self.server.url}/features/{number}", "-X", "PUT", body=body)
         self.alike("new fields and layers", ASKED + "DescribeFeatureType")
         self.alike("features of them", ASKED + "GetFeature")
         for number in (9001, 9002, 5000):
@@ -180,11 +201,9 @@ def without(cases: Cases, folder: str, server: Server) -> None:
     with ExitStack() as stack:
         if status_of(curl(server.url + HAS)) == 404:
             gateway = stack.enter_context(Gateway(folder, server.url, "--held", "0"))
-            told = [line for line in gateway.told if "the map has" in line]
-            cases.show("wfs-far: a server without boxes", [line.endswith("asked for") for line in told], [False])
+            cases.show("wfs-far: a server without boxes", is_far(gateway), [False])
         gateway = stack.enter_context(Gateway(folder, boxes_of(cases, stack, server)))
-        told = [line for line in gateway.told if "the map has" in line]
-        cases.show("wfs-far: a small map", [line.endswith("asked for") for line in told], [False])
+        cases.show("wfs-far: a small map", is_far(gateway), [False])
 
 
 def large(cases: Cases, folder: str) -> None:

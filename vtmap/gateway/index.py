@@ -91,6 +91,9 @@ class Index:
         """Sees which pieces of a group are shown: the first one as the whole, or each of them if there is no first one."""
         group = self.groups[named]
         for number, piece in group.items():
+            if named[0] not in group:
+                # It is shown as a feature of its own, with this tag too.
+                self.summary(piece.key).forms.setdefault(WHOLE, "INTEGER")
             self.put(number, piece.key if number == named[0] or named[0] not in group else None, PART)
         if not group:
             del self.groups[named]
