@@ -10,6 +10,7 @@ from typing import Any
 
 from ..client.client import PAGE
 from ..client.feed import Leader
+from ..faults import Stopped
 from ..geometry.shapes import Box
 from ..geometry.wholes import WHOLE, Whole, group_of
 from .index import Index, Key, whole_of
@@ -178,7 +179,8 @@ class FarMap(LiveMap):
                     return
             page = client.found(f"{PAGE}/{at}" if where is None else f"{BOXES}/{where}/from/{at}")
             if page is None:
-                return
+                # It was started anew without --admin, or by an older program: what was read so far isn't all of it.
+                raise Stopped(f"{client.address} no longer lists features by pages")
             for row in page["features"]:
                 yield row["id"], row["feature"]
             at = page["next"]
@@ -230,9 +232,9 @@ class FarMap(LiveMap):
 
 
 def edges(box: Box) -> tuple[int, int, int, int]:
-    """The least box of whole numbers around one, within the world."""
+    """The least box of whole numbers around one, within the world. The server takes none whose left edge is right of its right one."""
     west, north, east, south = (min(max(edge, 0), EDGE) for edge in box)
-    return math.floor(west), math.floor(north), math.ceil(east), math.ceil(south)
+    return math.floor(min(west, east)), math.floor(min(north, south)), math.ceil(max(west, east)), math.ceil(max(north, south))
 
 
 def has_boxes(client: Leader) -> bool:
