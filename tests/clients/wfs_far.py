@@ -7,7 +7,7 @@ import re
 import subprocess
 import time
 from contextlib import ExitStack
-
+from typing import Optional
 
 from .box_stand_in import Boxes
 from .gateways import Gateway, Gis, edits_at, feature_at, map_at, point, put_at, text_of
@@ -31,6 +31,7 @@ def wfs_far(cases: Cases, folder: str) -> None:
         server = stack.enter_context(Server(folder, "town", sectors=16384))
         town(folder, server.url)
         cut(server)
+        stand_in_is_true(cases, server, "the town")
         url = boxes_of(cases, stack, server)
         far = stack.enter_context(Gateway(folder, url, "--held", "0"))
         held = stack.enter_context(Gateway(folder, server.url, "--held", "1000000"))
@@ -46,12 +47,44 @@ def is_far(gateway: Gateway) -> list[bool]:
     return [line.endswith("as they are asked for") for line in gateway.told if "the map has" in line]
 
 
+def has_boxes(server: Server) -> bool:
+    """Whether the program itself has boxes."""
+    return status_of(curl(server.url + HAS)) == 200
+
+
 def boxes_of(cases: Cases, stack: ExitStack, server: Server) -> str:
     """The address of a server with boxes: its own, or that of a stand-in in front of it."""
-    if status_of(curl(server.url + HAS)) == 200:
+    if has_boxes(server):
         return server.url
     cases.say("the program has no boxes: a stand-in makes them")
     return stack.enter_context(Boxes(server)).url
+
+
+def stand_in_is_true(cases: Cases, server: Server, name: str) -> None:
+    """Sees that the stand-in lists in boxes what the server lists, if that has boxes."""
+    if not has_boxes(server):
+        return
+    dice = random.Random(11)
+    with Boxes(server) as stand_in:
+        for at in range(12):
+            west, north = dice.randrange(2**32), dice.randrange(2**32)
+            wide = 2 ** dice.randrange(20, 33)
+            box = west, north, min(west + wide, 2**32 - 1), min(north + wide, 2**32 - 1)
+            box = (0, 0, 2**32 - 1, 2**32 - 1) if at == 0 else box
+            found = listed(server.url, box)
+            cases.show(f"wfs-far: {name}: the stand-in lists box {at} too", listed(stand_in.url, box), found)
+
+
+def listed(url: str, box: tuple[int, int, int, int]) -> list[object]:
+    """The features in a box, by pages."""
+    rows: list[object] = []
+    at: Optional[int] = 0
+    while at is not None:
+        path = f"{url}/admin/features/box/{','.join(map(str, box))}/from/{at}"
+        page = json.loads(text_of(path))
+        rows += page["features"]
+        at = page["next"]
+    return rows
 
 
 def cut(server: Server) -> None:
@@ -132,6 +165,13 @@ class Both:
             xs, ys = (sorted(dice.uniform(wide[axis], wide[axis + 2]) for _ in "ab") for axis in (0, 1))
             box = f"{xs[0]:.3f},{ys[0]:.3f},{xs[1]:.3f},{ys[1]:.3f}"
             self.alike(f"box {at}", f"{ASKED}GetFeature&BBOX={box},EPSG:3857")
+        for name, box in (
+            ("with its edges exchanged", "836000,7266000,834000,7264000"),
+            ("beyond the world", "-99999999,-99999999,99999999,99999999"),
+            ("outside of the world", "99999999,99999999,199999999,199999999"),
+            ("that is a point", "835000,7265000,835000,7265000"),
+        ):
+            self.alike(f"a box {name}", f"{ASKED}GetFeature&BBOX={box},EPSG:3857")
 
     # ---- saving
 
@@ -199,7 +239,7 @@ class Both:
 def without(cases: Cases, folder: str, server: Server) -> None:
     """A server without boxes, and a small map, are held whole."""
     with ExitStack() as stack:
-        if status_of(curl(server.url + HAS)) == 404:
+        if not has_boxes(server):
             gateway = stack.enter_context(Gateway(folder, server.url, "--held", "0"))
             cases.show("wfs-far: a server without boxes", is_far(gateway), [False])
         gateway = stack.enter_context(Gateway(folder, boxes_of(cases, stack, server)))
@@ -219,13 +259,19 @@ def large(cases: Cases, folder: str) -> None:
                                        "geometry": {"type": "Point", "coordinates": place}}) + "\n")
         words = [*VTMAP, "import", path, "--layer", "tree", "--minzoom", "14", "--maxzoom", "14", "--url", server.url]
         subprocess.run(words, check=True, capture_output=True)
+        stand_in_is_true(cases, server, f"{MANY:,} points")
         gateway = stack.enter_context(Gateway(folder, boxes_of(cases, stack, server)))
         began, gis = time.monotonic(), Gis(gateway, "tree.points")
         count = gis.get("GetFeature").count("<v:feature_id>")
         cases.show(f"wfs-far: all of {MANY:,} points", count, MANY)
         cases.say(f"in {time.monotonic() - began:.1f} s, {memory_of(gateway)} MB at most")
-        found = gis.rows(BBOX="779236,7157000,790000,7160000,EPSG:3857")
-        cases.show("wfs-far: a box of them", 0 < len(found) < MANY, True)
+        # The points are columns of 0.001 degrees and rows of 0.0002, from 779236.4 and 7170156.3 metres on.
+        found = gis.rows(BBOX="779236,7170000,790000,7170440,EPSG:3857")
+        inside = {at + 1 for at in range(MANY) if at % 1000 < 97 and at // 1000 < 8}
+        cases.show("wfs-far: a box of them", set(found), inside)
+        # So many that the server looks at 1,024 features for a page, and lists none on the first ones.
+        found = gis.rows(BBOX="779236,7170250,890445,7290000,EPSG:3857")
+        cases.show("wfs-far: a box of most of them", set(found), set(range(3001, MANY + 1)))
         cases.show(f"wfs-far: within {MOST_MB} MB", memory_of(gateway) < MOST_MB, True)
 
 
