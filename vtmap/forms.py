@@ -49,11 +49,13 @@ class ListedFeature(TypedDict):
     feature: Feature
 
 
-class Journal(TypedDict):
-    """The sectors of the journal, and how many of them are used."""
+class Journal(TypedDict, total=False):
+    """The sectors of the journal, how many of them are used, and the last edit that is no longer listed. An older server
+    tells nothing of that one."""
 
     places: int
     used: int
+    forgotten: int
 
 
 class Area(TypedDict):

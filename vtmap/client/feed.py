@@ -71,9 +71,9 @@ class Leader(Client):
                     raise Stopped(f"{self.address} lists edit {edit['edit']:,} in place of {at:,}")
             return reply["edits"], reply["last"]
         if status == 410:
-            status = self.known()
+            known = self.known()
             # An older server lists no published edit.
-            raise LeftBehind(self.address, number, status["journal"].get("forgotten", status["published"]))
+            raise LeftBehind(self.address, number, known["journal"].get("forgotten", known["published"]))
         if status == 404:
             edits = self.known()["edits"]
             if number > edits + 1:
@@ -172,14 +172,21 @@ class Standby(Leader):
         return self.sent("POST", f"{NUMBERED}/{edit['edit']}", body)
 
     def put_alone(self, edit: Edit) -> tuple[int, bytes]:
-        """The reply to an edit whose changes are too long for a body: it has put one feature, whose JSON alone isn't. A PUT gets whichever number is
-        the next one, so that is asked for before, and seen in the reply."""
-        number, (change,) = self.known()["edits"] + 1, edit["changes"]
-        if number != edit["edit"]:
+        """The reply to an edit whose changes are too long for a body: it has put one feature, whose JSON alone isn't."""
+        (change,) = edit["changes"]
+        body = encoded(change["feature"])
+        status, content = self.sent("PUT", f"/admin/features/{change['put']}/at/{edit['edit']}", body)
+        return self.put_unnumbered(edit["edit"], change["put"], body) if status == 404 else (status, content)
+
+    def put_unnumbered(self, edit: int, feature: int, body: bytes) -> tuple[int, bytes]:
+        """The same of a server that is older than numbers of a PUT. It gets whichever number is the next one, so that is asked for before, and
+        seen in the reply."""
+        number = self.known()["edits"] + 1
+        if number != edit:
             return 409, b"Next %d" % number
-        status, content = self.sent("PUT", f"/features/{change['put']}", encoded(change["feature"]))
-        if status == 200 and self.value(content)["edit"] != edit["edit"]:
-            raise Stopped(f"edit {edit['edit']:,} has another number at {self.address}: it was edited by somebody else. {THEN}")
+        status, content = self.sent("PUT", f"/features/{feature}", body)
+        if status == 200 and self.value(content)["edit"] != edit:
+            raise Stopped(f"edit {edit:,} has another number at {self.address}: it was edited by somebody else. {THEN}")
         return status, content
 
     def sent(self, method: str, path: str, body: bytes) -> tuple[int, bytes]:
