@@ -50,7 +50,7 @@ def admin(cases: Cases, folder: str) -> None:
         listing(cases, server)
         watched(cases, server)
         saved(cases, folder, server)
-    with Server(folder, "boxes", more=["--admin"]) as server:
+    with Server(folder, "boxes", 65536, more=["--admin"]) as server:
         boxes(cases, server)
     piped(cases, folder)
 
@@ -146,10 +146,10 @@ def boxes(cases, server):
     count = INDEXED + 5 * LOOKS
     points = {3 * n + 1: (chance.randrange(1000), chance.randrange(1000)) for n in range(count)}
     ids = list(points)
-    for start in range(0, count, 200):
+    for start in range(0, count, 64):
         changes = [
             {"put": id, "feature": json.loads(feature(geometry={"points": [points[id]]}))}
-            for id in ids[start : start + 200]
+            for id in ids[start : start + 64]
         ]
         curl(server.url + "/edits", "-X", "POST", body=json.dumps({"changes": changes}))
     cases.show("boxes: the map", json.loads(curl(server.url + STATUS)[2])["features"], count)

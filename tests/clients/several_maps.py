@@ -366,9 +366,10 @@ def taken_over(cases, here, first, url, closed):
     """A standby of that process is taken over: it is left, and logged."""
     os.makedirs(here.path("var/lib/vtserve-nginx"), exist_ok=True)
     first.end(signal.SIGKILL)
-    with open(os.path.join(here.kept, "enabled"), "w", encoding="ascii"):
-        here.calls()
-        code, lines = here.vtmap("takeover", "--map", "west", "--leader", first.url)
+    with open(os.path.join(here.kept, "enabled"), "w", encoding="ascii") as file:
+        file.write("vtserve-follow-maps.service")
+    here.calls()
+    code, lines = here.vtmap("takeover", "--map", "west", "--leader", first.url)
     os.unlink(os.path.join(here.kept, "enabled"))
     called = here.calls()
     units = [call for call in called if "vtserve-standby@" in call or "vtserve-log@" in call]

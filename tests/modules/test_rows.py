@@ -206,10 +206,20 @@ class Passed(unittest.TestCase):
 
     def test_one_that_is_too_long_is_put_between_two_rows(self):
         edits = [edit(5), edit(6), edit(7, text="x" * 65536), edit(8), edit(9)]
-        standby = Answers([made(5), made(6), (200, b'{"edits":6}'), made(7), made(8), made(9)])
-        self.run_to_end(self.passing(Answers([(200, json.dumps({"edits": edits, "last": 9}).encode()), listed(10, 10)]), standby))
+        reply = 200, json.dumps({"edits": edits, "last": 9}).encode()
+        standby = Answers(map(made, range(5, 10)))
+        self.run_to_end(self.passing(Answers([reply, listed(10, 10)]), standby))
+        alone = "/admin/features/7/at/7"
         self.assertEqual((self.standby.at, [path for path, _ in standby.seen]), (
-            9, [AT + "5", AT + "6", "/admin/status", "/features/7", AT + "8", AT + "9"]))
+            9, [AT + "5", AT + "6", alone, AT + "8", AT + "9"]))
+
+    def test_an_older_standby_is_given_one_that_is_too_long_by_a_put(self):
+        edits = [edit(5, text="x" * 65536), edit(6)]
+        reply = 200, json.dumps({"edits": edits, "last": 6}).encode()
+        standby = Answers([(404, b"NotFound\n"), (200, b'{"edits":4}'), made(5), made(6)])
+        self.run_to_end(self.passing(Answers([reply, listed(7, 7)]), standby))
+        self.assertEqual((self.standby.at, [path for path, _ in standby.seen]), (
+            6, ["/admin/features/5/at/5", "/admin/status", "/features/5", AT + "6"]))
 
     def test_one_that_is_too_long_waits_for_those_that_are_on_their_way(self):
         is_listed = threading.Event()
@@ -223,9 +233,9 @@ class Passed(unittest.TestCase):
             is_listed.set()
             return 200, json.dumps({"edits": [edit(6, text="x" * 65536)], "last": 6}).encode()
 
-        standby = Answers([slow, (200, b'{"edits":5}'), made(6)])
+        standby = Answers([slow, made(6)])
         self.run_to_end(self.passing(Answers([listed(5, 6, 6), long, listed(7, 7)]), standby))
-        self.assertEqual((self.standby.at, standby.paths()), (6, ["5", "status", "6"]))
+        self.assertEqual((self.standby.at, standby.paths()), (6, ["5", "6"]))
 
     def test_a_standby_of_another_number_begins_again(self):
         standby = Answers([(409, b"Next 3\n")] * 3)

@@ -73,7 +73,7 @@ class Leader(Client):
         if status == 410:
             known = self.known()
             # An older server lists no published edit.
-            raise LeftBehind(self.address, number, known["journal"].get("forgotten", known["published"]))
+            raise LeftBehind(self.address, number, known.get("journal", {}).get("forgotten", known["published"]))
         if status == 404:
             edits = self.known()["edits"]
             if number > edits + 1:

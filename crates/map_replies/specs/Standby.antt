@@ -26,10 +26,6 @@ pub record IsEditOf (first : ℕ) (edits : List EditData) (number : ℕ) (cs : E
 abbrev pub SaysEditOf : (first : ℕ) → List EditData → (number : ℕ) → (body : List ℕ) → Type 0
 SaysEditOf first edits number body = (cs : EditData) × SaysChanges body cs × IsEditOf first edits number cs
 
--- the body says a feature, and the leader's edit of this number sets it under this id
-abbrev pub SaysPutOf : (first : ℕ) → List EditData → (id number : ℕ) → (body : List ℕ) → Type 0
-SaysPutOf first edits id number body = (f : FeatureData) × SaysFeature body f × IsEditOf first edits number (put id f ∷ [])
-
 -- The edits that a leader shows are the last of those that it has made: all after the forgotten ones.
 pub record AreLastOf (first : ℕ) (edits : List EditData) (forgotten : ℕ) (shown : List RecordedEdit) : Type 0 where
   pub before : List EditData
