@@ -119,6 +119,7 @@ def rotated(cases, office, wanted):
     office.follower.communicate()
     office.edit("bob", "PUT", "/features/352", shape("Unseen"))
     curl(office.server.url + "/publish", "-X", "POST")
+    office.server.restart()
     vtmap("follow", "--log", office.path, "--once", "--url", office.server.url)
     office.edit("anna", "PUT", "/features/352", shape("Later"))
     vtmap("follow", "--log", office.path, "--once", "--url", office.server.url)

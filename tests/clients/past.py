@@ -226,6 +226,7 @@ def gap(cases, history):
         last = history.save()
     history.edit({"put": 1003, "feature": point("d")})
     curl(history.server.url + "/publish", "-X", "POST")
+    history.server.restart()
     history.begin()
     history.see()
     history.edit({"delete": 1002})

@@ -127,7 +127,7 @@ class Server:
         self.port = port or free_port()
         self.url = f"http://127.0.0.1:{self.port}"
         self.log = open(log or self.disk + ".log", "w+b")
-        words = [
+        self.words = [
             *under,
             PROGRAM,
             "serve",
@@ -138,8 +138,18 @@ class Server:
             str(connections),
             *more,
         ]
-        self.child = subprocess.Popen(words, stdout=subprocess.PIPE, stderr=self.log)
+        self.start()
+
+    def start(self) -> None:
+        """Starts the process, and waits until it listens."""
+        self.child = subprocess.Popen(self.words, stdout=subprocess.PIPE, stderr=self.log)
         self.told = self.child.stdout.readline().decode()
+
+    def restart(self) -> None:
+        """Ends the process, and starts it again on the same disk and port: its feed lists no published edit then."""
+        self.end()
+        self.child.stdout.close()
+        self.start()
 
     def lines(self) -> list[str]:
         """The lines on standard error so far."""

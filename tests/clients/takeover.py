@@ -91,10 +91,11 @@ def takes_over(cases, folder, old, standby):
     cases.show("takeover: edits go on at the standby", known(standby)["edits"], edits + 20)
     told = subprocess.run([*VTMAP, "publish", "--url", standby.url], capture_output=True, text=True)
     cases.show("takeover: and publications", (told.returncode, told.stdout.splitlines()[-1]), (0, "published"))
+    standby.restart()
     os.rename(old.disk + ".gone", old.disk)
     with Server(folder, os.path.basename(old.disk)) as back:
         code, lines = once(standby.url, "--to", back.url)
-        # It has other edits under the same numbers, or more of them, or some that are published.
+        # It has other edits under the same numbers, or more of them, or lacks some that are listed no more.
         why = any(words in lines[-1] for words in ("somebody else", "another map", "no longer lists edit"))
         cases.show("takeover: the old disk is no standby any more", (code, why), (1, True))
     with Server(folder, copied(standby, folder, "again")) as again:

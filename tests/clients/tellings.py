@@ -111,6 +111,7 @@ def again(cases: Cases, folder: str) -> None:
         os.rename(history.log, history.log + ".1")
         history.edit({"put": 4, "feature": shape(EAST)})
         curl(server.url + "/publish", "-X", "POST")
+        server.restart()
         history.edit({"put": 5, "feature": shape(EAST)})
         once(server.url, "--log", history.log)
         code, _ = once(server.url, *words)

@@ -280,6 +280,7 @@ def missed(cases, office, folder):
     office.edit("bob", "DELETE", "/features/50")
     office.last()
     curl(server.url + "/publish", "-X", "POST")
+    server.restart()
     vtmap(*follows)
     code, lines = vtmap("log", log)
     gap = f"the edits {first + 1:,} to {first + 3:,} are missing: they were published before they were read"

@@ -203,9 +203,12 @@ def behind(cases, folder, server):
     with Gateway(folder, server.url) as gateway:
         gis = Gis(gateway, "building.areas")
         gis.rows()
+        gateway.child.send_signal(signal.SIGSTOP)
         for name in ("one", "two"):
             put_at(server.url, 451, name=name)
             curl(f"{server.url}/publish", "-X", "POST")
+        server.restart()
+        gateway.child.send_signal(signal.SIGCONT)
         cases.show(
             "wfs: after a publication of edits that it hasn't read",
             Gis(gateway, "place.points").rows()[451]["name"],

@@ -172,9 +172,9 @@ class Maps:
 
 
 class PastHandler(FrontHandler):
-    """One connection."""
+    """One connection. `past` has the maps; `maps` are those of a gateway, which finds one for each request."""
 
-    maps: Maps
+    past: Maps
 
     def answer(self) -> None:
         """Answers a request, or passes it on to the server of a map. Nothing is changed."""
@@ -198,14 +198,14 @@ class PastHandler(FrontHandler):
     def send_about(self, text: str) -> None:
         """Which map is that of a time."""
         try:
-            self.send(200, self.maps.about(text).json(), [("Content-Type", JSON), ("Cache-Control", "no-store")])
+            self.send(200, self.past.about(text).json(), [("Content-Type", JSON), ("Cache-Control", "no-store")])
         except Fault as fault:
             self.send_fault(fault)
 
     def send_of(self, edit: int, path: str) -> None:
         """What the server of a map says."""
         try:
-            port = self.maps.of(edit).port
+            port = self.past.of(edit).port
         except Fault as fault:
             self.send_fault(fault)
             return
@@ -218,6 +218,6 @@ class PastHandler(FrontHandler):
         self.send(status, f"{fault}\n".encode(), [("Content-Type", TEXT), ("Cache-Control", "no-store")])
 
 
-def front_of_past(port: int, pages: str, maps: Maps) -> Listener:
+def front_of_past(port: int, pages: str, past: Maps) -> Listener:
     """Listens on a port of this machine. Raises `OSError`."""
-    return Listener((HERE, port), type("Here", (PastHandler,), {"behind": Behind(0, 0, pages), "maps": maps}))
+    return Listener((HERE, port), type("Here", (PastHandler,), {"behind": Behind(0, 0, pages), "past": past}))
