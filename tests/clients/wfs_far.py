@@ -146,7 +146,9 @@ class Both:
         self.alike("all of the map, WFS 1.1", "/wfs?SERVICE=WFS&VERSION=1.1.0&REQUEST=GetFeature")
         buildings = ASKED + "GetFeature&TYPENAMES=v:building.areas"
         self.alike("sorted", buildings + "&SORTBY=floors%20DESC,house&COUNT=20")
-        by_id = ASKED + "GetFeature&STOREDQUERY_ID=urn:ogc:def:query:OGC-WFS::GetFeatureById&ID=place.points."
+        by_id = ASKED + "GetFeature&STOREDQUERY_ID=urn:ogc:def:query:OGC-WFS::GetFeatureById&ID="
+        self.alike("an id of no feature", by_id + "nothing")
+        by_id += "place.points."
         self.alike("by an id", by_id + "452")
         self.alike("one item", "/ogc/collections/place.points/items/452")
         self.alike("an id that isn't there", by_id + "9")

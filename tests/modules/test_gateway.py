@@ -2,17 +2,20 @@
 Encoding 2.0) and 04-095 (1.1), geometries those of GML 2 and 3, requests those of OGC 17-069 (OGC API Features)."""
 import json
 import math
+import types
 import unittest
 import xml.etree.ElementTree as tree
 
 import stand
-from vtmap.faults import Refused
+from vtmap.client.feed import Leader
+from vtmap.faults import Refused, Stopped
 from vtmap.files.geopackage import Unreadable
 from vtmap.gateway import ogc_api
 from vtmap.gateway.actions import actions_of, is_given, number_and_version, parsed
 from vtmap.gateway.filters import box_of, is_like, numbers, parts_of_like, test_of
 from vtmap.gateway.live_map import LiveMap
 from vtmap.gateway.names import map_name, xml_name
+from vtmap.gateway.saves import Saves
 from vtmap.gateway.sessions import Session
 from vtmap.gateway.tables import Table, View, around, is_within, meets, signed, version_of
 from vtmap.gateway.wfs_texts import VERSIONS, capabilities, chosen, features, schema
@@ -444,6 +447,14 @@ class Live(unittest.TestCase):
         live.look()
         live.take({7: None})
         self.assertEqual(live.tables(), {})
+
+
+class Transactions(unittest.TestCase):
+    def test_a_server_that_tells_nothing_of_its_journal(self):
+        client = Leader("http://127.0.0.1:1")
+        client.status = lambda: None
+        saves = Saves(types.SimpleNamespace(client=client), None)
+        self.assertRaises(Stopped, saves.see_room, [])
 
 
 class Documents(unittest.TestCase):

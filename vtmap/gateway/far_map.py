@@ -5,17 +5,19 @@ from __future__ import annotations
 import contextlib
 import json
 import math
-from collections.abc import Iterable, Iterator
-from typing import Any
+from collections.abc import Iterable, Iterator, Mapping
 
 from ..client.client import PAGE
 from ..client.feed import Leader
 from ..faults import Stopped
+from ..files.map_schema import SchemaFile
+from ..files.save_log import SaveLog
+from ..forms import Feature
 from ..geometry.shapes import Box
 from ..geometry.wholes import WHOLE, Whole, group_of
-from .index import Index, Key, whole_of
-from .live_map import LiveMap
-from .tables import NO_PAST, FarTable, View, meets
+from .index import Index, whole_of
+from .live_map import LiveMap, Version
+from .tables import NO_PAST, FarTable, Kept, Key, Table, View, meets
 
 BOXES = "/admin/features/box"
 # An id that few maps have: who asks for the features from there on asks whether there are boxes.
@@ -41,7 +43,7 @@ class Packed:
         return view_of(self.number, pieces)
 
 
-def view_of(number: int, pieces: dict[int, dict[str, Any]]) -> View:
+def view_of(number: int, pieces: dict[int, Feature]) -> View:
     """The view of features of the map that are one."""
     is_whole = group_of(pieces[number], WHOLE) is not None and len(pieces) > 0 and number == pieces[number]["tags"].get(WHOLE)
     return View(whole_of(number, pieces) if is_whole else Whole(number, pieces[number], pieces))
@@ -67,10 +69,10 @@ class Now:
     def __len__(self) -> int:
         return len(self.live.index)
 
-    def __contains__(self, number: int) -> bool:
+    def __contains__(self, number: object) -> bool:
         return number in self.live.index
 
-    def get(self, number: int) -> dict[str, Any] | None:
+    def get(self, number: int) -> Feature | None:
         """A feature as it is now, None if there is none."""
         return self.live.client.feature(number)
 
@@ -79,9 +81,9 @@ class Known:
     """Versions of features that somebody has got, by their numbers and versions."""
 
     def __init__(self) -> None:
-        self.packed: dict[tuple[int, str], Packed] = {}
+        self.packed: dict[Version, Packed] = {}
 
-    def get(self, key: tuple[int, str]) -> dict[str, Any] | None:
+    def get(self, key: Version) -> Feature | None:
         """The feature of a version, None if it isn't known any more."""
         found = self.packed.get(key)
         return None if found is None else found.view().feature
@@ -100,9 +102,16 @@ class Known:
 class FarMap(LiveMap):
     """A map that is held, or read by boxes. `held`: the most features of one that is held."""
 
-    def __init__(self, client: Leader, further: dict, log: Any = None, schema: Any = None, held: int = HELD) -> None:
+    def __init__(
+        self,
+        client: Leader,
+        further: Mapping[Key, Mapping[str, str]],
+        log: SaveLog | None = None,
+        schema: SchemaFile | None = None,
+        held: int = HELD,
+    ) -> None:
         super().__init__(client, further, log, schema)
-        self.held, self.index = held, Index()
+        self.held, self.index, self.got = held, Index(), Known()
 
     # ---- following
 
@@ -118,16 +127,17 @@ class FarMap(LiveMap):
         for number, feature in self.client.features():
             index.take(number, feature)
         self.index = index
-        self.views, self.now, self.known = Views(self), Now(self), Known()
+        self.got = Known()
+        self.views, self.now, self.known = Views(self), Now(self), self.got
         self.edits = status["edits"]
         self.tell(f"the map has {len(index):,} features at edit {self.edits:,}, which are read as they are asked for")
 
     def forget(self) -> None:
         """Forgets what the map has."""
         super().forget()
-        self.index, self.is_far = Index(), False
+        self.index, self.got, self.is_far = Index(), Known(), False
 
-    def take(self, changes: dict[int, Any]) -> None:
+    def take(self, changes: Mapping[int, Feature | None]) -> None:
         """Takes features by their ids; None for one that is gone."""
         if not self.is_far:
             super().take(changes)
@@ -168,7 +178,7 @@ class FarMap(LiveMap):
             for number, _ in wholes:
                 yield from filter(None, [self.view(number, client)])
 
-    def rows(self, client: Leader, key: Key, box: Box | None, first: int) -> Iterator[tuple[int, dict[str, Any]]]:
+    def rows(self, client: Leader, key: Key, box: Box | None, first: int) -> Iterator[tuple[int, Feature]]:
         """The features of the map that may be in a table and a box, by pages. Without a box pages are left out that have none of the table."""
         at: int | None = first
         where = None if box is None else ",".join(f"{edge}" for edge in edges(box))
@@ -187,12 +197,12 @@ class FarMap(LiveMap):
 
     # ---- tables
 
-    def tables(self) -> dict[str, Any]:
+    def tables(self) -> dict[str, Table]:
         """The tables by their names."""
         if not self.is_far:
             return super().tables()
         schema, wanted = self.schema.now, {*self.further, *self.schema.now.tables()}
-        made: dict[Key, FarTable] = {}
+        made: dict[Key, Table] = {}
         for key in {*wanted, *self.emptied, *self.index.summaries}:
             summary, before = self.index.summaries.get(key), self.made_tables.get(key)
             count = summary.count if summary else 0
@@ -204,7 +214,7 @@ class FarMap(LiveMap):
         self.made_tables = made
         return {table.name: table for _, table in sorted(made.items())}
 
-    def features_of(self, layers: Iterable[str]) -> Iterator[dict[str, Any]]:
+    def features_of(self, layers: Iterable[str]) -> Iterator[Feature]:
         """The features of layers, for their schema."""
         if not self.is_far:
             yield from super().features_of(layers)
@@ -218,7 +228,7 @@ class FarMap(LiveMap):
     def remember(self, view: View) -> None:
         """Remembers a version that somebody has got."""
         if self.is_far:
-            self.known.add(view)
+            self.got.add(view)
         else:
             super().remember(view)
 
@@ -226,9 +236,11 @@ class FarMap(LiveMap):
         """The greatest id of a feature, or 0."""
         return self.index.greatest() if self.is_far else super().greatest()
 
-    def pack(self, view: View) -> Any:
+    def pack(self, view: View) -> Kept:
         """What is kept of a feature that a GIS shows."""
-        return self.known.add(view) if self.is_far else view
+        if self.is_far:
+            return self.got.add(view)
+        return view
 
 
 def edges(box: Box) -> tuple[int, int, int, int]:

@@ -166,13 +166,13 @@ class FarReply:
 
     def values(self, found: Iterable[tuple[Any, Any, str]]) -> Spooled:
         """Values of a property in a file."""
-        from .wfs import see_value  # pylint: disable=import-outside-toplevel
-        name, body, count, seen = self.given.get("valuereference", ""), Spool(), 0, set[str]()
+        from .wfs import value_in  # pylint: disable=import-outside-toplevel
+        body, count, seen = Spool(), 0, set[str]()
         try:
-            see_value(name, [])
+            name = value_in(self.given.get("valuereference"), [])
             for table, view, fid in found:
                 if table.name not in seen:
-                    see_value(name, [table])
+                    value_in(name, [table])
                     seen.add(table.name)
                 for part in wfs_texts.parts_of(table, view, fid, name):
                     body.write(wfs_texts.element("wfs:member", part) + "\n")

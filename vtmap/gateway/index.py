@@ -7,14 +7,14 @@ from array import array
 from bisect import bisect_left
 from collections import Counter
 from collections.abc import Iterator
-from typing import Any, NamedTuple
+from typing import NamedTuple
 
 from ..files.checkout_file import ZOOMS, form_of
+from ..forms import Feature
 from ..geometry.shapes import Box, bounds
-from ..geometry.wholes import PIECE, WHOLE, group_of, joined
-from .tables import around
+from ..geometry.wholes import PIECE, WHOLE, Whole, group_of, joined
+from .tables import Key, around
 
-Key = tuple[str, str]
 # The number of no table: that of a piece which is shown as a part of its whole.
 PART = 0
 
@@ -36,7 +36,7 @@ class Summary:
         self.is_several = False
         self.box: Box | None = None
 
-    def see(self, feature: dict[str, Any], kind: str) -> None:
+    def see(self, feature: Feature, kind: str) -> None:
         """Sees a feature of it."""
         for tag, value in feature["tags"].items():
             if tag != WHOLE:
@@ -63,11 +63,13 @@ class Index:
     def __len__(self) -> int:
         return len(self.ids)
 
-    def __contains__(self, number: int) -> bool:
+    def __contains__(self, number: object) -> bool:
+        if not isinstance(number, int):
+            return False
         at = bisect_left(self.ids, number)
         return at < len(self.ids) and self.ids[at] == number
 
-    def take(self, number: int, feature: dict[str, Any] | None) -> None:
+    def take(self, number: int, feature: Feature | None) -> None:
         """Takes a feature, None for one that is gone."""
         before = self.pieces.pop(number, None)
         if before is not None:
@@ -159,6 +161,6 @@ class Index:
         return self.ids[at - 1] if at else 0
 
 
-def whole_of(number: int, pieces: dict[int, dict[str, Any]]) -> Any:
+def whole_of(number: int, pieces: dict[int, Feature]) -> Whole:
     """The whole of pieces, of which the first one has the number."""
     return joined(number, pieces, WHOLE)

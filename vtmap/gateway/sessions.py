@@ -4,14 +4,19 @@ The id of a feature names its version (`place.points.352.9f..`), and a GIS sends
 GIS keeps the id of a feature that it has saved, though the feature has another version since; and while it is panned it gets no second version of a
 feature, since it would show both.
 """
+from __future__ import annotations
+
 import math
 import time
 from collections import defaultdict
+from collections.abc import Callable, Iterable, Iterator, Mapping
+from typing import Any, Tuple
 
 from ..faults import Refused
+from ..geometry.shapes import Box
 from ..geometry.world import WORLD
 from .actions import number_and_version
-from .tables import DIGITS, is_within, signed
+from .tables import DIGITS, Kept, Table, View, is_within, signed
 
 # Seconds without a request after which a session that has only read is dropped, and the boxes of one that has saved; and after which that one is.
 IDLE, FORGOTTEN = 12 * 3600, 30 * 24 * 3600
@@ -23,33 +28,51 @@ MOST_SESSIONS, MOST_SHOWN, MOST_BOXES = 10_000, 5_000_000, 1000
 # The same features of a map that isn't held: some 600 bytes each.
 MOST_FAR = 60_000
 
+# The id of a feature, and the number and the version that it stands for.
+Note = Tuple[str, int, str]
+
+
+def kept(view: View) -> Kept:
+    """A feature as a map that is held keeps it."""
+    return view
+
 
 class Session:
     """One layer of one GIS, which has an address of its own for its requests."""
 
-    def __init__(self):
+    def __init__(self) -> None:
         self.used = time.time()
         # What it has saved: the number and the version that an id has become; all ids of each of these, and the last one.
-        self.has, self.ids, self.fids = {}, defaultdict(set), {}
+        self.has: dict[str, tuple[int, str]] = {}
+        self.ids = defaultdict[Tuple[int, str], set[str]](set)
+        self.fids: dict[tuple[int, str], str] = {}
         # Versions of conflicts that it was told (None: deleted), the ids under which it got these features since, and those that are as it was told.
-        self.told, self.given, self.seen = {}, {}, set()
+        self.told: dict[int, str | None] = {}
+        self.given: dict[int, str] = {}
+        self.seen: set[tuple[int, str | None]] = set()
         # By the names of tables: the boxes that were asked for since the layer was loaded, and the features in them.
-        self.boxes, self.shown = {}, 0
+        self.boxes: dict[str, tuple[list[Box], dict[int, Kept]]] = {}
+        self.shown = 0
         # What its last Transaction was that added features, and the ids that these got.
-        self.mark, self.added = "", []
+        self.mark = ""
+        self.added: list[str] = []
         # The features of which it was asked whether they are to be deleted, and when.
-        self.asked, self.asked_at = frozenset(), 0.0
+        self.asked, self.asked_at = frozenset[int](), 0.0
 
     # ---- ids
 
-    def held(self, fid):
+    def found(self, fid: str) -> tuple[int, str] | None:
+        """The number of a feature, and the version of it that the GIS has; None if it is no id of the gateway."""
+        return self.has.get(fid) or number_and_version(fid)
+
+    def held(self, fid: str) -> tuple[int, str]:
         """The number of a feature, and the version of it that the GIS has."""
-        found = self.has.get(fid) or number_and_version(fid)
-        if not found:
+        found = self.found(fid)
+        if found is None:
             raise Refused(f"no feature has the id {fid}")
         return found
 
-    def fid(self, table, number, version):
+    def fid(self, table: Table, number: int, version: str) -> str:
         """The id of a feature: that under which the GIS has this version already."""
         fid = self.fids.get((number, version))
         if fid is None:
@@ -61,7 +84,7 @@ class Session:
                 self.note(fid, number, version)
         return fid
 
-    def note(self, fid, number, version):
+    def note(self, fid: str, number: int, version: str) -> None:
         """Notes that an id stands for this version."""
         if fid in self.has:
             self.ids[self.has[fid]].discard(fid)
@@ -69,7 +92,7 @@ class Session:
         self.ids[number, version].add(fid)
         self.fids[number, version] = fid
 
-    def saved(self, fid, table, number, before, version):
+    def saved(self, fid: str, table: Table, number: int, before: str | None, version: str) -> list[Note]:
         """What is to be noted once a feature is saved: each id under which the GIS has the version before stands for the new one."""
         ids = sorted(self.ids[number, before]) if before else []
         if before and f"{table.name}.{number}.{before}" not in self.has:
@@ -77,7 +100,7 @@ class Session:
         last = self.given.get(number, fid)
         return [(one, number, version) for one in [*(one for one in [*ids, fid] if one != last), last]]
 
-    def says_again(self, numbers):
+    def says_again(self, numbers: frozenset[int]) -> bool:
         """Whether it was asked about these features just before, and says them again. Otherwise it is asked now."""
         is_again = numbers == self.asked and time.time() < self.asked_at + ASKED
         self.asked, self.asked_at = frozenset() if is_again else numbers, time.time()
@@ -85,7 +108,7 @@ class Session:
 
     # ---- what it is given
 
-    def give(self, found):
+    def give(self, found: Iterable[tuple[Table, View]]) -> None:
         """Notes that the GIS gets features of which it was told conflicts. `found`: pairs of table and view."""
         numbers = {view.number: (table, view) for table, view in found} if self.told else {}
         for number, version in self.told.items():
@@ -97,7 +120,9 @@ class Session:
             elif version is None:
                 self.seen.add((number, version))
 
-    def pinned(self, table, box, views, pack=lambda view: view, most=math.inf):
+    def pinned(
+        self, table: Table, box: Box | None, views: Iterable[View], pack: Callable[[View], Kept] = kept, most: float = math.inf
+    ) -> Iterator[View]:
         """The features of a box, each as the GIS has it already. A box inside of one before is asked for when the layer is loaded anew (F5): a GIS
         that is panned asks for none of those. `pack`: what is kept of a feature. Of a table of which it would show more than `most` features none is
         kept."""
@@ -120,13 +145,13 @@ class Session:
                 shown.clear()
             yield here.view() if here.version != view.version else view
 
-    def count_shown(self):
+    def count_shown(self) -> int:
         """Counts the features in its boxes. Returns how many more they are than before."""
         before, self.shown = self.shown, sum(len(shown) for _, shown in self.boxes.values())
         return self.shown - before
 
     @property
-    def is_needed(self):
+    def is_needed(self) -> bool:
         """Whether it has more than what its GIS gets again by reading."""
         return bool(self.has or self.told)
 
@@ -134,11 +159,12 @@ class Session:
 class Sessions:
     """The sessions by their names, the one that was used last at the end."""
 
-    def __init__(self):
-        self.all, self.shown, self.swept = {}, 0, time.time()
+    def __init__(self) -> None:
+        self.all: dict[str, Session] = {}
+        self.shown, self.swept = 0, time.time()
         self.most = MOST_SHOWN
 
-    def get(self, name):
+    def get(self, name: str) -> Session:
         """The session of a name, or a new one, which is only kept by `keep`: anybody can make up names."""
         if time.time() > self.swept + 3600:
             self.sweep()
@@ -146,7 +172,7 @@ class Sessions:
         session.used = time.time()
         return session
 
-    def keep(self, name, session):
+    def keep(self, name: str, session: Session) -> None:
         """Keeps a session that has read or saved something. What nobody has named isn't kept."""
         if not name:
             return
@@ -161,21 +187,21 @@ class Sessions:
                 if self.shown <= self.most:
                     break
 
-    def drop(self, name):
+    def drop(self, name: str) -> None:
         """Drops a session."""
         self.shown -= self.all.pop(name).shown
 
-    def empty(self, session):
+    def empty(self, session: Session) -> None:
         """Drops the boxes of a session."""
         session.boxes.clear()
         self.shown += session.count_shown()
 
-    def empty_all(self):
+    def empty_all(self) -> None:
         """Drops the boxes of all sessions."""
         for session in self.all.values():
             self.empty(session)
 
-    def restore(self, row):
+    def restore(self, row: Mapping[str, Any]) -> None:
         """Takes what was noted of a save."""
         if row["session"]:
             session = self.get(row["session"])
@@ -184,7 +210,7 @@ class Sessions:
             session.mark, session.added, session.used = row["mark"], row["added"], row["time"]
             self.keep(row["session"], session)
 
-    def sweep(self):
+    def sweep(self) -> None:
         """Drops what hasn't been used for long."""
         self.swept = now = time.time()
         for name, session in list(self.all.items()):

@@ -5,7 +5,7 @@ import hashlib
 import secrets
 from collections import Counter, defaultdict
 from collections.abc import Iterable, Mapping
-from typing import TYPE_CHECKING, List, NamedTuple
+from typing import TYPE_CHECKING, List, NamedTuple, Protocol, Tuple
 
 from ..client.edits import encoded
 from ..files.checkout_file import KINDS, ZOOMS, cell_of, form_of
@@ -19,6 +19,8 @@ if TYPE_CHECKING:
     from .far_map import FarMap
     from .index import Summary
 
+# A layer and a kind of shapes: a table.
+Key = Tuple[str, str]
 # Columns that aren't tags.
 SHAPE, ID = "geom", "feature_id"
 OWN = (SHAPE, ID, *ZOOMS)
@@ -51,7 +53,7 @@ class View:
         self.written: tuple[object, str] = None, ""
 
     @property
-    def key(self) -> tuple[str, str]:
+    def key(self) -> Key:
         """The table that it is in."""
         return self.layer, self.kind
 
@@ -60,13 +62,23 @@ class View:
         return self
 
 
+class Kept(Protocol):
+    """A feature as it is kept for a GIS that shows it: its id, its version, and the feature."""
+
+    number: int
+    version: str
+
+    def view(self) -> View:
+        """The feature."""
+
+
 class Table:
     """The features of one kind of one layer. `columns`: the tag and the type of each, by its name. `further`: types of tags that a feature may get.
     `past`: what it had, if it has no feature any more. `rules`: the layer as the schema has it, or None."""
 
     def __init__(
         self,
-        key: tuple[str, str],
+        key: Key,
         views: Iterable[View],
         further: Mapping[str, str],
         past: Past = NO_PAST,
@@ -128,7 +140,7 @@ class FarTable(Table):
     def __init__(
         self,
         live: FarMap,
-        key: tuple[str, str],
+        key: Key,
         summary: Summary | None,
         further: Mapping[str, str],
         past: Past = NO_PAST,

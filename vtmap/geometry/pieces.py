@@ -1,4 +1,7 @@
 """The features of the map that an edited feature becomes: itself, or its pieces. Needs GDAL's Python module for shapes that are cut alone."""
+from __future__ import annotations
+
+from collections.abc import Container
 from typing import Any
 
 from ..forms import Feature
@@ -8,7 +11,7 @@ from .shapes import SAFE, Unfit, points_of
 from .wholes import OUTLINE, PIECE, WHOLE
 
 
-def pieces_of(row: Any, now: dict[int, Feature]) -> dict[int, Feature]:
+def pieces_of(row: Any, now: Container[int]) -> dict[int, Feature]:
     """The features by their ids that a row is to be on the map. Raises `Unfit`. A new row has no id that is somebody else's. A row has a `number`, the
     `feature` that it is to be (None: deleted), its `base`, which is the whole that the map has of it (None of a new one), and what was `seen`."""
     base, feature = row.base, row.feature
