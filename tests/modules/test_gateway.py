@@ -11,13 +11,14 @@ from vtmap.client.feed import Leader
 from vtmap.faults import Refused, Stopped
 from vtmap.files.geopackage import Unreadable
 from vtmap.gateway import ogc_api
-from vtmap.gateway.actions import actions_of, is_given, number_and_version, parsed
+from vtmap.gateway.actions import Action, actions_of, is_given, number_and_version, parsed
 from vtmap.gateway.filters import box_of, is_like, numbers, parts_of_like, test_of
 from vtmap.gateway.live_map import LiveMap
 from vtmap.gateway.names import map_name, xml_name
 from vtmap.gateway.saves import Saves
 from vtmap.gateway.sessions import Session
 from vtmap.gateway.tables import Table, View, around, is_within, meets, signed, version_of
+from vtmap.gateway.transaction import Conflict, Transaction
 from vtmap.gateway.wfs_texts import VERSIONS, capabilities, chosen, features, schema
 from vtmap.gateway.wishes import changed, fault_of, new_feature
 from vtmap.geometry.gml import geometry_of, gml_of
@@ -450,6 +451,28 @@ class Live(unittest.TestCase):
 
 
 class Transactions(unittest.TestCase):
+    def setUp(self):
+        self.live = LiveMap(Known({7: stand.feature()}), {})
+        self.live.look()
+        self.new = Action("Insert", "p.points", [], {"geom": {"points": [[1, 1]]}})
+        # The GIS still shows a feature that others have deleted. Its id would be the next one.
+        self.gone = f"p.points.8.{signed('0' * 16)}"
+
+    def test_a_new_feature_gets_no_id_that_is_named(self):
+        task = Transaction(self.live, Session(), [self.new, Action("Delete", "p.points", [self.gone])])
+        self.assertEqual([(change.number, change.body is None) for change in task.changes()], [(9, False)])
+        self.assertEqual([fid.split(".")[2] for fid in task.saved()[1]], ["9"])
+
+    def test_a_change_of_what_is_gone_is_none_of_a_new_feature(self):
+        with self.assertRaises(Conflict) as refused:
+            Transaction(self.live, Session(), [self.new, Action("Update", "p.points", [self.gone], {"name": "x"})])
+        self.assertEqual(refused.exception.features, ["p 8 (deleted)"])
+
+    def test_new_ids_go_on_after_those_that_others_took(self):
+        task = Transaction(self.live, Session(), [self.new, self.new, Action("Delete", "p.points", [self.gone])])
+        task.renumber(11)
+        self.assertEqual(sorted(task.wishes), [12, 13])
+
     def test_a_server_that_tells_nothing_of_its_journal(self):
         client = Leader("http://127.0.0.1:1")
         client.status = lambda: None

@@ -50,7 +50,9 @@ class Transaction:
 
     def __init__(self, live: LiveMap, session: Session, actions: Iterable[Action], again: Sequence[str] = ()) -> None:
         self.live, self.session, self.tables = live, session, live.tables()
-        self.again = again
+        self.again, asked = again, list(actions)
+        # The features that it names. A new one gets none of their ids, also where the map has no such feature any more.
+        self.named = {found[0] for action in asked for fid in action.fids for found in [session.found(fid)] if found is not None}
         # Its new features in their order: the id of one that isn't made again, or the wish.
         self.new: list[str | Wish] = []
         # What it makes of each feature, by the ids, and the versions that these had.
@@ -60,7 +62,7 @@ class Transaction:
         self.counts = Counter[str]()
         # The id from which on free ones are looked for; None before the first is.
         self.free: int | None = None
-        for action in actions:
+        for action in asked:
             self.add(action)
         if self.conflicts:
             raise Conflict(self.conflicts)
@@ -97,7 +99,7 @@ class Transaction:
 
     def new_id(self, first: int) -> int:
         """The next free id, from one on. Pieces of cut features have greater ones."""
-        while first in self.live.now or first in self.wishes:
+        while first in self.live.now or first in self.wishes or first in self.named:
             first += 1
         self.free = first
         return first
