@@ -8,8 +8,9 @@ import os
 import subprocess
 import tempfile
 import threading
-from collections.abc import Callable
-from typing import Any, NamedTuple
+import time
+from collections.abc import Callable, Iterable
+from typing import Any, List, NamedTuple, Optional, Tuple
 
 from ..client.followers import Log
 from ..ending import replaced
@@ -22,9 +23,24 @@ from .checkout import Choice
 # The file beside a log that has the number of the last edit that a command was told of.
 TOLD = ".run"
 # The most edits that are told at once, and the bytes of their lines from which on no more are added; the seconds that a
-# command may take; and the seconds
-# until it is tried again, at first and at most.
+# command may take; and the seconds until it is tried again, at first and at most.
 MOST, MOST_BYTES, LONGEST, PAUSE, LONGEST_PAUSE = 500, 1 << 20, 600, 10, 600
+# How often the files of a log are looked at until an edit that they lack is missing, and the seconds between two looks:
+# whoever renames them does it file by file.
+LOOKS, LOOK = 4, 0.5
+
+
+class Part(NamedTuple):
+    """Rows of a file, the place behind them, and whether there are no more."""
+
+    rows: list[LogRow]
+    place: tuple[int, int]
+    is_all: bool
+
+
+# Rows, and the place behind them: the file at the path, by its number on the disk, and the byte; None: not known.
+Place = Optional[Tuple[int, int]]
+Rows = Tuple[List[LogRow], Place]
 
 
 class Tail:
@@ -32,20 +48,34 @@ class Tail:
 
     def __init__(self, path: str) -> None:
         self.path = path
-        # Behind which row the next one is: the file at the path, by its number on the disk, and the byte; None: not
-        # known.
-        self.place: tuple[int, int] | None = None
+        # Behind which row the next one is.
+        self.place: Place = None
 
-    def after(self, number: int) -> tuple[list[LogRow], tuple[int, int] | None]:
-        """Some rows after an edit, and the place behind them."""
-        rows, place = self.from_place() or self.from_files(number)
-        first = first_of(rows[0]) if rows else number + 1
-        if first > number + 1:
-            # A file of the log was taken away before it was told.
-            rows.insert(0, {"time": rows[0]["time"], "missed": [number + 1, first - 1]})
-        return rows, place
+    def after(self, number: int) -> Rows:
+        """Some rows after an edit, and the place behind them. Edits that the log lacks are missing, unless it is just
+        being renamed."""
+        rows: list[LogRow] = []
+        place: Place = None
+        for at in range(LOOKS):
+            if at:
+                time.sleep(LOOK)
+            found = self.look(number)
+            if found is not None:
+                rows, place = found
+                if with_missed(rows, number) == rows:
+                    break
+        return with_missed(rows, number), place
 
-    def from_files(self, number: int) -> tuple[list[LogRow], tuple[int, int] | None]:
+    def look(self, number: int) -> Rows | None:
+        """Some rows after an edit, and the place behind them; None if files were renamed meanwhile."""
+        try:
+            before = files_of(self.path)
+            found = self.from_place() or self.from_files(number)
+            return found if files_of(self.path) == before else None
+        except FileNotFoundError:
+            return None
+
+    def from_files(self, number: int) -> Rows:
         """Some rows after an edit, of the files that there are."""
         rows: list[LogRow] = []
         for name in needed(rotated(self.path), When("", edit=number), None):
@@ -55,7 +85,7 @@ class Tail:
                 return rows, part.place if name == self.path else None
         return rows, None
 
-    def from_place(self) -> tuple[list[LogRow], tuple[int, int] | None] | None:
+    def from_place(self) -> Rows | None:
         """Some rows behind the place; None if that isn't known, or the log isn't the file any more that it was."""
         if self.place is None or not os.path.exists(self.path):
             return None
@@ -67,12 +97,21 @@ class Tail:
         return part.rows, part.place
 
 
-class Part(NamedTuple):
-    """Rows of a file, the place behind them, and whether there are no more."""
+def files_of(path: str) -> list[tuple[str, int]]:
+    """The files of a log by their names, with their numbers on the disk."""
+    return [(name, os.stat(name).st_ino) for name in rotated(path)]
 
-    rows: list[LogRow]
-    place: tuple[int, int]
-    is_all: bool
+
+def with_missed(rows: Iterable[LogRow], number: int) -> list[LogRow]:
+    """Rows after an edit, with a row for the edits that they lack: a file of the log was taken away before it was
+    told."""
+    made: list[LogRow] = []
+    for row in rows:
+        if first_of(row) > number + 1:
+            made.append({"time": row["time"], "missed": [number + 1, first_of(row) - 1]})
+        made.append(row)
+        number = max(number, last_of(row))
+    return made
 
 
 def first_of(row: LogRow) -> int:
@@ -133,7 +172,11 @@ class Teller:
         if status is None:
             return False
         if self.number is None:
-            rows = read(self.path, 0, 1, -1).rows
+            try:
+                rows = read(self.path, 0, 1, -1).rows
+            except FileNotFoundError:
+                # It is just being renamed.
+                return False
             self.keep(last_of(rows[0]) if rows else status["edits"])
         return self.number is not None and status["edits"] > self.number
 
