@@ -12,6 +12,7 @@ import urllib.request
 from vtmap.command_line import COMMANDS
 from vtmap.systems import LOCKED
 
+from .endings import has_pillow
 from .import_stand import has_gdal, row, written
 from .stand import HERE, SYSTEM_PYTHON, TOP, Cases, Server, curl, feature, free_port
 
@@ -198,7 +199,10 @@ def others(office):
     office.show("publish", ["publish", "--record", "published"], 0, "published")
     office.show("watch", ["watch", "--record", "published", "--metrics", "metrics"], 0, "nothing to do", False)
     office.show("qgis", ["qgis", "map.qgs"], 0, "map.qgs: type=xyz", False)
-    office.show("draw", ["draw", "map.png", "--zoom", "14"], 0, "features drawn", False)
+    if has_pillow():
+        office.show("draw", ["draw", "map.png", "--zoom", "14"], 0, "features drawn", False)
+    else:
+        office.cases.say("windows: no Pillow: nothing is drawn")
     office.show("join", ["join", office.server.url, "all.pmtiles"], 0, "1 archives joined", False)
 
 
