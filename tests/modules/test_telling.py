@@ -2,12 +2,13 @@
 `vtmap follow --log`."""
 import json
 import os
+import types
 import unittest
 from unittest import mock
 
 import stand
 from vtmap.commands import telling
-from vtmap.commands.telling import Tail
+from vtmap.commands.telling import Tail, Teller
 
 TIME = "2025-11-29T12:45:10.000Z"
 
@@ -119,6 +120,26 @@ class Tails(stand.InFolder):
         self.assertEqual(tail.after(24), ([], tail.place))
         self.write(25, 26)
         self.assertEqual(numbers(tail.after(24)[0]), [25, 26])
+
+
+class Tellers(stand.InFolder):
+    def test_a_log_that_cant_be_read_is_tried_again(self):
+        log, told, said = self.path("edits.jsonl", line(1) + "x\n"), self.path("told"), []
+        self.path("edits.jsonl.at", "2\n")
+        self.path("edits.jsonl.run", "0\n")
+        teller = Teller(log, f"cat >> {told}", None, said.append)
+        teller.chosen = lambda row: row
+
+        def wait(seconds):
+            if seconds == telling.PAUSE:
+                self.path("edits.jsonl", line(1) + line(2))
+            return teller.number == 2
+
+        teller.is_over = types.SimpleNamespace(wait=wait)
+        teller.run(0.1)
+        with open(told, encoding="utf-8") as file:
+            self.assertEqual(numbers(map(json.loads, file)), [1, 2])
+        self.assertEqual((len(said), "tried again in 10 s" in said[0], teller.pause), (1, True, telling.PAUSE))
 
 
 if __name__ == "__main__":

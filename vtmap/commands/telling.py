@@ -160,9 +160,14 @@ class Teller:
             raise Stopped(f"{self.path}{TOLD} has no number of an edit") from fault
 
     def run(self, every: float) -> None:
-        """Tells of each edit, until it is over."""
+        """Tells of each edit, until it is over. A log that can't be read is tried again, as a command that fails is."""
         while not self.is_over.wait(every):
-            if self.has_more() and not self.tell():
+            try:
+                is_done = not self.has_more() or self.tell()
+            except (OSError, ValueError) as fault:
+                self.say(f"--run: {self.path} can't be read ({fault}), and is tried again in {self.pause} s")
+                is_done = False
+            if not is_done:
                 self.is_over.wait(self.pause)
                 self.pause = min(2 * self.pause, LONGEST_PAUSE)
 
