@@ -1,8 +1,9 @@
-"""HTTP of the front: which path is whose, what of a request is passed on, and what is refused as docs/nginx.conf refuses it. Needs no package.
+"""HTTP of the front: which path is whose, what of a request is passed on, and what is refused as docs/nginx.conf
+refuses it. Needs no package.
 
-It is for one person on one machine: nothing is cached, compressed or limited, and whoever reaches the port may edit. Requests for other names, and
-changes that a page of another origin asks for, are refused by the handler of the gateway, which this one is made of.
-"""
+It is for one person on one machine: nothing is cached, compressed or limited, and whoever reaches the port may edit.
+Requests for other names, and changes that a page of another origin asks for, are refused by the handler of the gateway,
+which this one is made of. """
 from __future__ import annotations
 
 import http.client
@@ -19,9 +20,22 @@ from ..limits import MOST_BODY as MOST_OF_MAP
 # What of a request vtserve gets, and the gateway; and what of a reply a client gets.
 FIELDS_OF_MAP = ("content-type", "range", "if-range", "if-match", "if-none-match")
 FIELDS_OF_GATEWAY = ("content-type", "accept-encoding", "if-none-match", "origin", "sec-fetch-site")
-FIELDS_OF_REPLY = ("content-type", "content-length", "content-range", "content-encoding", "accept-ranges", "etag", "allow", "location",
-                   "content-disposition", "content-security-policy", "x-content-type-options", "cross-origin-resource-policy")
-# Whose a path is. Edits are JSON: a page of another origin can make a browser send text or a form, but for JSON the browser asks first.
+FIELDS_OF_REPLY = (
+    "content-type",
+    "content-length",
+    "content-range",
+    "content-encoding",
+    "accept-ranges",
+    "etag",
+    "allow",
+    "location",
+    "content-disposition",
+    "content-security-policy",
+    "x-content-type-options",
+    "cross-origin-resource-policy",
+)
+# Whose a path is. Edits are JSON: a page of another origin can make a browser send text or a form, but for JSON the
+# browser asks first.
 PUBLIC = re.compile(r"/map/.*|/map\.json|/map\.pmtiles")
 OF_MAP = re.compile(r"/map/.*|/map\.pmtiles|/features/.*|/edits|/publish(/.*)?|/admin/.*")
 OF_GATEWAY, OF_PICTURES = re.compile(r"/(wfs|ogc|files)(/.*)?"), re.compile(r"/wmts(/.*)?|/xyz/.*")
@@ -36,8 +50,10 @@ KINDS = {
     ".json": "application/json; charset=utf-8",
 }
 OTHER_KIND = "application/octet-stream"
-POLICY = ("default-src 'self'; img-src 'self' data:; connect-src 'self'; style-src 'self' 'unsafe-inline'; "
-          "frame-ancestors 'none'; base-uri 'none'; form-action 'self'")
+POLICY = (
+    "default-src 'self'; img-src 'self' data:; connect-src 'self'; style-src 'self' 'unsafe-inline'; "
+    "frame-ancestors 'none'; base-uri 'none'; form-action 'self'"
+)
 OF_PAGES = [("Cache-Control", "no-cache"), ("Content-Security-Policy", POLICY), ("X-Content-Type-Options", "nosniff")]
 OF_ALL = [
     ("Access-Control-Allow-Origin", "*"),
@@ -48,7 +64,8 @@ CHUNK, LONGEST = 1 << 16, 600
 
 
 class Behind(NamedTuple):
-    """What is behind a front: the ports of the server and of the gateway, the folder of the page, and the port of pictures, 0 without them."""
+    """What is behind a front: the ports of the server and of the gateway, the folder of the page, and the port of
+    pictures, 0 without them."""
 
     map: int
     gateway: int
@@ -78,7 +95,9 @@ class FrontHandler(Handler):
         elif EDITS.fullmatch(path) and self.headers.get_content_type() != "application/json":
             self.refuse(415, "application/json is needed")
         elif OF_MAP.fullmatch(path):
-            self.pass_on(self.behind.map, self.fields(FIELDS_OF_MAP), MOST_OF_MAP, OF_ALL if PUBLIC.fullmatch(path) else [])
+            self.pass_on(
+                self.behind.map, self.fields(FIELDS_OF_MAP), MOST_OF_MAP, OF_ALL if PUBLIC.fullmatch(path) else []
+            )
         elif OF_GATEWAY.fullmatch(path):
             self.pass_on(self.behind.gateway, self.fields_of_gateway(), MOST_BODY, [])
         elif OF_PICTURES.fullmatch(path) and self.behind.pictures:
@@ -94,7 +113,12 @@ class FrontHandler(Handler):
 
     def fields_of_gateway(self) -> dict[str, str]:
         """The fields that the gateway gets, with the address that the client has asked."""
-        about = {"Host": HERE, "X-Forwarded-Host": self.headers.get("host", HERE), "X-Forwarded-Proto": "http", "X-Real-IP": self.client_address[0]}
+        about = {
+            "Host": HERE,
+            "X-Forwarded-Host": self.headers.get("host", HERE),
+            "X-Forwarded-Proto": "http",
+            "X-Real-IP": self.client_address[0],
+        }
         return {**self.fields(FIELDS_OF_GATEWAY), **about}
 
     def length(self) -> int | None:
@@ -142,8 +166,14 @@ class FrontHandler(Handler):
             layers = json.loads(data)["vector_layers"]
             last = max((layer["maxzoom"] for layer in layers), default=GREATEST_ZOOM)
             tiles = f"http://{self.headers['host']}/map/{{z}}/{{x}}/{{y}}.mvt"
-            data = json.dumps({"tilejson": "3.0.0", "tiles": [tiles], "maxzoom": last, "vector_layers": layers}, separators=(",", ":")).encode()
-        self.send(status, data, [("Content-Type", "application/json" if status == 200 else TEXT), ("Cache-Control", "no-cache"), *OF_ALL])
+            data = json.dumps(
+                {"tilejson": "3.0.0", "tiles": [tiles], "maxzoom": last, "vector_layers": layers}, separators=(",", ":")
+            ).encode()
+        self.send(
+            status,
+            data,
+            [("Content-Type", "application/json" if status == 200 else TEXT), ("Cache-Control", "no-cache"), *OF_ALL],
+        )
 
     @staticmethod
     def asked(port: int, method: str, path: str) -> tuple[int, Any, bytes]:
@@ -191,7 +221,14 @@ class FrontHandler(Handler):
         # A stream of events has no length, and each part of it is passed on as it comes.
         is_stream = reply.getheader("content-type") == EVENT_STREAM
         self.close_connection = self.close_connection or is_stream
-        self.head(reply.status, [*((name, value) for name, value in reply.getheaders() if name.lower() in FIELDS_OF_REPLY), *caching, *more])
+        self.head(
+            reply.status,
+            [
+                *((name, value) for name, value in reply.getheaders() if name.lower() in FIELDS_OF_REPLY),
+                *caching,
+                *more,
+            ],
+        )
         while self.command != "HEAD":
             part = reply.read1(CHUNK) if is_stream else reply.read(CHUNK)
             if not part:

@@ -15,10 +15,11 @@ from .tables import signed
 # Elements of a filter that names features by their ids, and the attributes that have these.
 OF_IDS = ("FeatureId", "GmlObjectId", "ResourceId")
 ID_NAMES = ("fid", "id", "rid")
-# The most elements and attributes of a request, and how deep elements are inside of each other. A new point with ten attributes is some
-# twenty of them.
+# The most elements and attributes of a request, and how deep elements are inside of each other. A new point with ten
+# attributes is some twenty of them.
 MOST_ELEMENTS, MOST_DEPTH = 1_000_000, 500
-# The id of a feature: table, number, version, its signature, and which one of several it is. Earlier ones have no signature.
+# The id of a feature: table, number, version, its signature, and which one of several it is. Earlier ones have no
+# signature.
 ID = re.compile(r"""[^\s<>&"']+\.([0-9]{1,19})\.([0-9a-f]{16})([0-9a-f]{8})?(-[0-9]+)?""")
 
 
@@ -28,8 +29,8 @@ Said = Union[str, Geometry, None]
 
 @dataclass
 class Action:
-    """What one element of a Transaction asks: `Insert`, `Update` or `Delete` of features of a type. `values` by the names of XML: a text, None or a
-    geometry."""
+    """What one element of a Transaction asks: `Insert`, `Update` or `Delete` of features of a type. `values` by the
+    names of XML: a text, None or a geometry."""
 
     name: str
     type: str
@@ -38,8 +39,9 @@ class Action:
 
 
 class Builder:
-    """The elements of an XML text, as they are parsed. A document type, which may have entities of its own, is refused; so is too much, before it is
-    in memory. A name keeps its prefix in place of the namespace: a long namespace would be in memory once for each name."""
+    """The elements of an XML text, as they are parsed. A document type, which may have entities of its own, is refused;
+    so is too much, before it is in memory. A name keeps its prefix in place of the namespace: a long namespace would be
+    in memory once for each name."""
 
     def __init__(self) -> None:
         self.root: Optional[tree.Element] = None
@@ -48,7 +50,7 @@ class Builder:
         self.count = 0
         self.parser = expat.ParserCreate()
         # A long text in few parts: each is added to those before it.
-        self.parser.buffer_size, self.parser.buffer_text = 2 ** 20, True
+        self.parser.buffer_size, self.parser.buffer_text = 2**20, True
         self.parser.StartDoctypeDeclHandler = self.refuse
         self.parser.StartElementHandler, self.parser.EndElementHandler = self.begin, self.end
         self.parser.CharacterDataHandler = self.text
@@ -65,7 +67,9 @@ class Builder:
             raise Unreadable(f"the request has over {MOST_ELEMENTS:,} elements: save fewer features at once")
         if len(self.open) == MOST_DEPTH:
             raise Unreadable(f"the request is nested too deep: over {MOST_DEPTH} elements are inside of each other")
-        made = tree.Element(named(name), {named(key): value for key, value in attributes.items() if not key.startswith("xmlns")})
+        made = tree.Element(
+            named(name), {named(key): value for key, value in attributes.items() if not key.startswith("xmlns")}
+        )
         if self.open:
             self.open[-1].append(made)
         else:
@@ -151,7 +155,8 @@ def value_of(element: tree.Element) -> Said:
 
 
 def fids_of(element: tree.Element) -> list[str]:
-    """The ids of features that the filter of an action names. An edit says which features it changes: no other filter is taken."""
+    """The ids of features that the filter of an action names. An edit says which features it changes: no other filter
+    is taken."""
     found = []
     for part in (part for child in element if local(child) == "Filter" for part in child.iter()):
         if local(part) not in ("Filter", "Or", *OF_IDS):

@@ -20,8 +20,14 @@ from .projections import System
 from .tables import Table, View
 
 CSV, GEOPACKAGE = "text/csv; charset=utf-8; header=present", "application/geopackage+sqlite3"
-WKT = {"Point": "POINT", "LineString": "LINESTRING", "Polygon": "POLYGON", "MultiPoint": "MULTIPOINT", "MultiLineString": "MULTILINESTRING",
-       "MultiPolygon": "MULTIPOLYGON"}
+WKT = {
+    "Point": "POINT",
+    "LineString": "LINESTRING",
+    "Polygon": "POLYGON",
+    "MultiPoint": "MULTIPOINT",
+    "MultiLineString": "MULTILINESTRING",
+    "MultiPolygon": "MULTIPOLYGON",
+}
 # One file is made at a time: it may have all features of the map.
 TURN = threading.Lock()
 
@@ -59,7 +65,14 @@ def write_csv(file: Any, table: Table, views: Iterable[View], system: System) ->
         else:
             place = [wkt(geometry, system)]
         tags = view.feature["tags"]
-        writer.writerow([view.number, *place, *(text_of(tags.get(tag)) for tag, _ in table.columns.values()), *(view.feature[zoom] for zoom in ZOOMS)])
+        writer.writerow(
+            [
+                view.number,
+                *place,
+                *(text_of(tags.get(tag)) for tag, _ in table.columns.values()),
+                *(view.feature[zoom] for zoom in ZOOMS),
+            ]
+        )
 
 
 def text_of(value: Value | None) -> Value | None:
@@ -108,10 +121,25 @@ def geopackage_at(folder: str, table: Table, views: Iterable[View]) -> str:
     file = geopackage.create(path)
     taken = {"fid", "geom", "rowid", "oid", "_rowid_", *ZOOMS}
     columns = [(geopackage.free_name(tag, taken), tag, form) for tag, form in table.columns.values()]
-    rows = ((view.number, view.feature["geometry"], [*(cell_of(view.feature["tags"].get(tag), form) for _, tag, form in columns),
-                                                    *(view.feature[zoom] for zoom in ZOOMS)]) for view in views)
+    rows = (
+        (
+            view.number,
+            view.feature["geometry"],
+            [
+                *(cell_of(view.feature["tags"].get(tag), form) for _, tag, form in columns),
+                *(view.feature[zoom] for zoom in ZOOMS),
+            ],
+        )
+        for view in views
+    )
     with file:
-        geopackage.add_table(file, table.name.replace(".", "_"), table.kind, table.is_several,
-                             [*((name, form) for name, _, form in columns), *((zoom, "INTEGER") for zoom in ZOOMS)], rows)
+        geopackage.add_table(
+            file,
+            table.name.replace(".", "_"),
+            table.kind,
+            table.is_several,
+            [*((name, form) for name, _, form in columns), *((zoom, "INTEGER") for zoom in ZOOMS)],
+            rows,
+        )
     file.close()
     return path

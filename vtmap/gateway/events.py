@@ -1,5 +1,5 @@
-"""Tells open pages of edits at once, and keeps the gateway's map: by one request of the server's feed of edits, which waits for the next edit
-(docs/HTTP.md, The feed of edits), however many pages there are. Needs no package."""
+"""Tells open pages of edits at once, and keeps the gateway's map: by one request of the server's feed of edits, which
+waits for the next edit (docs/HTTP.md, The feed of edits), however many pages there are. Needs no package."""
 from __future__ import annotations
 
 import threading
@@ -9,8 +9,8 @@ from typing import Any
 from ..client.feed import Leader
 from ..faults import Fault
 
-# The seconds that the server is asked to wait for an edit, the shortest such wait, and the pause before it is asked again where it replies at once (an
-# older server, or one with very many who wait) or not at all.
+# The seconds that the server is asked to wait for an edit, the shortest such wait, and the pause before it is asked
+# again where it replies at once (an older server, or one with very many who wait) or not at all.
 WAIT, SHORTEST, PAUSE = 25, 1.0, 2.0
 # The most pages that are told at once: each has a thread.
 MOST = 256
@@ -21,7 +21,8 @@ class Events:
 
     def __init__(self, live: Any) -> None:
         self.live, self.changed = live, threading.Condition()
-        # The number of the last edit that is known, None if the server doesn't say; how many pages are told; whether a thread follows.
+        # The number of the last edit that is known, None if the server doesn't say; how many pages are told; whether a
+        # thread follows.
         self.last: int | None = None
         self.pages, self.is_following, self.is_over = 0, False, False
 
@@ -46,7 +47,8 @@ class Events:
             self.pages -= 1
 
     def after(self, number: int, seconds: float) -> int | None:
-        """The number of the last edit, once it is another one than this; the same one after so many seconds. None if the server no longer says."""
+        """The number of the last edit, once it is another one than this; the same one after so many seconds. None if
+        the server no longer says."""
         with self.changed:
             self.changed.wait_for(lambda: self.last != number or self.is_over, seconds)
             return None if self.is_over else self.last

@@ -1,5 +1,6 @@
-"""The map as the gateway has it where that is too large to be held: an index of it, and boxes of its features as they are asked for
-(`/admin/features/box/`, docs/HTTP.md). A server without boxes, and a small map, are held whole, as `LiveMap` does. Needs no package."""
+"""The map as the gateway has it where that is too large to be held: an index of it, and boxes of its features as they
+are asked for (`/admin/features/box/`, docs/HTTP.md). A server without boxes, and a small map, are held whole, as
+`LiveMap` does. Needs no package."""
 from __future__ import annotations
 
 import contextlib
@@ -21,9 +22,9 @@ from .tables import NO_PAST, FarTable, Kept, Key, Table, View, meets
 
 BOXES = "/admin/features/box"
 # An id that few maps have: who asks for the features from there on asks whether there are boxes.
-LAST_ID = 2 ** 63 - 1
+LAST_ID = 2**63 - 1
 # The most features of a map that is held whole, if nothing else is said, and the greatest coordinate.
-HELD, EDGE = 10_000, 2 ** 32 - 1
+HELD, EDGE = 10_000, 2**32 - 1
 # The most versions of features that are kept of a map that isn't held.
 MOST_KNOWN = 40_000
 
@@ -35,7 +36,9 @@ class Packed:
 
     def __init__(self, view: View) -> None:
         self.number, self.version = view.number, view.version
-        self.data = json.dumps({str(piece): feature for piece, feature in view.whole.pieces.items()}, separators=(",", ":")).encode()
+        self.data = json.dumps(
+            {str(piece): feature for piece, feature in view.whole.pieces.items()}, separators=(",", ":")
+        ).encode()
 
     def view(self) -> View:
         """The feature again."""
@@ -45,7 +48,9 @@ class Packed:
 
 def view_of(number: int, pieces: dict[int, Feature]) -> View:
     """The view of features of the map that are one."""
-    is_whole = group_of(pieces[number], WHOLE) is not None and len(pieces) > 0 and number == pieces[number]["tags"].get(WHOLE)
+    is_whole = (
+        group_of(pieces[number], WHOLE) is not None and len(pieces) > 0 and number == pieces[number]["tags"].get(WHOLE)
+    )
     return View(whole_of(number, pieces) if is_whole else Whole(number, pieces[number], pieces))
 
 
@@ -154,16 +159,29 @@ class FarMap(LiveMap):
         group = self.index.group(number)
         if not group and self.index.is_part(number):
             return None
-        found = {piece: feature for piece in sorted({number, *group}) for feature in [client.feature(piece)] if feature is not None}
+        found = {
+            piece: feature
+            for piece in sorted({number, *group})
+            for feature in [client.feature(piece)]
+            if feature is not None
+        }
         if number not in found:
             return None
         key = group_of(found[number], WHOLE)
-        return view_of(number, {piece: feature for piece, feature in found.items() if piece == number or group_of(feature, WHOLE) == key})
+        return view_of(
+            number,
+            {piece: feature for piece, feature in found.items() if piece == number or group_of(feature, WHOLE) == key},
+        )
 
     def stream(self, key: Key, box: Box | None, first: int = 0) -> Iterator[View]:
-        """The features of a table in a box (None: all), from an id on, in the order of their ids, each as it is when it is read."""
+        """The features of a table in a box (None: all), from an id on, in the order of their ids, each as it is when it
+        is read."""
         with self.lock:
-            wholes = [(number, around) for number, around in self.index.wholes(key) if number >= first and (box is None or meets(around, box))]
+            wholes = [
+                (number, around)
+                for number, around in self.index.wholes(key)
+                if number >= first and (box is None or meets(around, box))
+            ]
         client = Leader(self.client.address)
         client.person = self.client.person
         with contextlib.closing(client):
@@ -179,7 +197,8 @@ class FarMap(LiveMap):
                 yield from filter(None, [self.view(number, client)])
 
     def rows(self, client: Leader, key: Key, box: Box | None, first: int) -> Iterator[tuple[int, Feature]]:
-        """The features of the map that may be in a table and a box, by pages. Without a box pages are left out that have none of the table."""
+        """The features of the map that may be in a table and a box, by pages. Without a box pages are left out that
+        have none of the table."""
         at: int | None = first
         where = None if box is None else ",".join(f"{edge}" for edge in edges(box))
         while at is not None:
@@ -210,7 +229,9 @@ class FarMap(LiveMap):
                 self.empty(key, before.past())
             if count or key in wanted or key in self.emptied:
                 past = NO_PAST if count else self.emptied.get(key, NO_PAST)
-                made[key] = FarTable(self, key, summary if count else None, self.further.get(key, {}), past, schema.layers.get(key[0]))
+                made[key] = FarTable(
+                    self, key, summary if count else None, self.further.get(key, {}), past, schema.layers.get(key[0])
+                )
         self.made_tables = made
         return {table.name: table for _, table in sorted(made.items())}
 
@@ -244,9 +265,15 @@ class FarMap(LiveMap):
 
 
 def edges(box: Box) -> tuple[int, int, int, int]:
-    """The least box of whole numbers around one, within the world. The server takes none whose left edge is right of its right one."""
+    """The least box of whole numbers around one, within the world. The server takes none whose left edge is right of
+    its right one."""
     west, north, east, south = (min(max(edge, 0), EDGE) for edge in box)
-    return math.floor(min(west, east)), math.floor(min(north, south)), math.ceil(max(west, east)), math.ceil(max(north, south))
+    return (
+        math.floor(min(west, east)),
+        math.floor(min(north, south)),
+        math.ceil(max(west, east)),
+        math.ceil(max(north, south)),
+    )
 
 
 def has_boxes(client: Leader) -> bool:

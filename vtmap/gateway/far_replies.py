@@ -1,4 +1,5 @@
-"""Replies of WFS about a map that isn't held: features are written to a file as they are read, and then sent. Needs no package."""
+"""Replies of WFS about a map that isn't held: features are written to a file as they are read, and then sent. Needs no
+package."""
 from __future__ import annotations
 
 import gzip
@@ -12,7 +13,7 @@ from .sessions import MOST_FAR
 from .wfs_texts import V2
 
 # The bytes of a reply from which on it is in a file.
-IN_MEMORY = 4 * 2 ** 20
+IN_MEMORY = 4 * 2**20
 UNKNOWN = "unknown"
 
 
@@ -86,8 +87,8 @@ def zipped(file: Any) -> tuple[Spool, int]:
 
 
 class FarReply:
-    """The reply to a GetFeature or a GetPropertyValue. `wfs`: the service. `chosen`: of each query the tables with their views, whether it names nothing
-    but a box, and that."""
+    """The reply to a GetFeature or a GetPropertyValue. `wfs`: the service. `chosen`: of each query the tables with
+    their views, whether it names nothing but a box, and that."""
 
     def __init__(self, wfs: Any, version: Any, name: str, given: dict[str, Any], chosen: list[Any]) -> None:
         self.wfs, self.version, self.name, self.given, self.chosen = wfs, version, name, given, chosen
@@ -96,11 +97,12 @@ class FarReply:
     def made(self, is_value: bool, wanted: dict[str, Any]) -> Any:
         """The reply: a text, or one in a file."""
         from .wfs import is_counted, number_in  # pylint: disable=import-outside-toplevel
+
         if is_counted(self.given):
             self.matched = sum(self.count(views) for tables, _, _ in self.chosen for _, views in tables)
             return wfs_texts.features(self.version, [], [], self.matched) if not is_value else self.values(iter(()))
         first = number_in(self.given, ("startindex",), 0)
-        found = self.found(first, number_in(self.given, ("count", "maxfeatures"), 10 ** 17))
+        found = self.found(first, number_in(self.given, ("count", "maxfeatures"), 10**17))
         return self.values(found) if is_value else self.features(found, wanted)
 
     @staticmethod
@@ -111,7 +113,11 @@ class FarReply:
 
     def known(self) -> int | None:
         """How many features there are in all, None if that isn't known without reading them."""
-        counts = [len(views) if isinstance(views, list) else views.count for tables, _, _ in self.chosen for _, views in tables]
+        counts = [
+            len(views) if isinstance(views, list) else views.count
+            for tables, _, _ in self.chosen
+            for _, views in tables
+        ]
         return None if None in counts else sum(counts)
 
     def found(self, first: int, most: int) -> Iterator[tuple[Any, Any, str]]:
@@ -167,6 +173,7 @@ class FarReply:
     def values(self, found: Iterable[tuple[Any, Any, str]]) -> Spooled:
         """Values of a property in a file."""
         from .wfs import value_in  # pylint: disable=import-outside-toplevel
+
         body, count, seen = Spool(), 0, set[str]()
         try:
             name = value_in(self.given.get("valuereference"), [])

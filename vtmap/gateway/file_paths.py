@@ -1,4 +1,5 @@
-"""HTTP for photos and files: what is sent is kept by its content's hash, and sent back as what it is. Needs no package."""
+"""HTTP for photos and files: what is sent is kept by its content's hash, and sent back as what it is. Needs no
+package."""
 from __future__ import annotations
 
 import json
@@ -22,11 +23,14 @@ TOLD = re.compile(rf">{PATH}({NAME.pattern})<")
 
 
 def by_paths(body: bytes, files: Attachments) -> bytes:
-    """A Transaction that names files by their paths, where it names them by addresses: QGIS's widget keeps the address that it has sent a file to."""
+    """A Transaction that names files by their paths, where it names them by addresses: QGIS's widget keeps the address
+    that it has sent a file to."""
+
     def path(found: Any) -> bytes:
         name = found[1].decode()
-        own = files.given(name[len(GIVEN) + 1:]) if name.startswith(GIVEN + "/") else name if files.has(name) else None
+        own = files.given(name[len(GIVEN) + 1 :]) if name.startswith(GIVEN + "/") else name if files.has(name) else None
         return f">{PATH}{own}<".encode() if own else found[0]
+
     return SENT.sub(path, body)
 
 
@@ -37,28 +41,37 @@ def by_addresses(text: str, address: str) -> str:
 
 def answer(handler: Any, files: Attachments | None, path: str, safety: list[tuple[str, str]]) -> None:
     """Sends a file."""
-    name = path[len(FILES):]
-    if files is not None and path.startswith(OF_GIVEN) and GIVEN_NAME.fullmatch(path[len(OF_GIVEN):]):
-        name = files.given(path[len(OF_GIVEN):]) or ""
+    name = path[len(FILES) :]
+    if files is not None and path.startswith(OF_GIVEN) and GIVEN_NAME.fullmatch(path[len(OF_GIVEN) :]):
+        name = files.given(path[len(OF_GIVEN) :]) or ""
     if files is None or not NAME.fullmatch(name) or not files.has(name):
         handler.reply(404, (NONE if files is None else "NotFound").encode(), TEXT)
         return
     end = name.rpartition(".")[2]
     tag = f'"{name}"'
-    fields = [("ETag", tag), ("Cache-Control", f"private, max-age={FOREVER}, immutable"), *safety, ("Cross-Origin-Resource-Policy", "same-origin")]
+    fields = [
+        ("ETag", tag),
+        ("Cache-Control", f"private, max-age={FOREVER}, immutable"),
+        *safety,
+        ("Cross-Origin-Resource-Policy", "same-origin"),
+    ]
     if tag in handler.headers.get("if-none-match", ""):
         handler.write(304, b"", fields)
         return
     with open(files.path(name), "rb") as file:
         length = os.fstat(file.fileno()).st_size
         # A browser shows no PDF that may run nothing: it is kept as a file.
-        about = [("Content-Type", KINDS[end]), ("Content-Length", str(length)), ("Content-Disposition", "attachment" if end == "pdf" else "inline")]
+        about = [
+            ("Content-Type", KINDS[end]),
+            ("Content-Length", str(length)),
+            ("Content-Disposition", "attachment" if end == "pdf" else "inline"),
+        ]
         handler.write_file(200, file, length, [*about, *fields])
 
 
 def take(handler: Any, files: Attachments | None, path: str) -> None:
     """Keeps a file that is sent: by POST to the folder, or by PUT to a name that the sender chooses."""
-    given, length = path[len(OF_GIVEN):] if path.startswith(OF_GIVEN) else None, handler.length()
+    given, length = path[len(OF_GIVEN) :] if path.startswith(OF_GIVEN) else None, handler.length()
     if files is None:
         handler.refuse(404, NONE)
     elif given is not None and not GIVEN_NAME.fullmatch(given):

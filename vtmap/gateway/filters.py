@@ -80,7 +80,8 @@ def test_of(element: Element, table: Table, session: Session) -> Test:
 
 
 def box_within(element: Element) -> Box | None:
-    """A box that all features of a filter are in: that of the filter, or of a part that has to be true; None if there is none."""
+    """A box that all features of a filter are in: that of the filter, or of a part that has to be true; None if there
+    is none."""
     name = local(element)
     if name in ("BBOX", "Intersects"):
         return box_in(element)
@@ -89,9 +90,12 @@ def box_within(element: Element) -> Box | None:
 
 
 def ids_within(element: Element, session: Session) -> set[int] | None:
-    """The numbers of the features that a filter names, if it names them by their ids alone, or a part that has to be true does; otherwise None."""
+    """The numbers of the features that a filter names, if it names them by their ids alone, or a part that has to be
+    true does; otherwise None."""
     name = local(element)
-    if name in OF_IDS or (name in ("Filter", "Or") and len(element) and all(local(child) in OF_IDS for child in element)):
+    if name in OF_IDS or (
+        name in ("Filter", "Or") and len(element) and all(local(child) in OF_IDS for child in element)
+    ):
         return {session.held(fid)[0] for part in element.iter() if local(part) in OF_IDS for fid in fids_in(part)}
     parts = list(element) if name == "And" or (name == "Filter" and len(element) == 1) else []
     return next((found for part in parts for found in [ids_within(part, session)] if found is not None), None)
@@ -122,11 +126,16 @@ def box_in(element: Element) -> Box:
 
 
 def value_test(name: str, element: Element, literals: list[str]) -> ValueTest | None:
-    """What a comparison asks of a value, as a function of it; None if it isn't known. A value that isn't there meets none but the null tests."""
+    """What a comparison asks of a value, as a function of it; None if it isn't known. A value that isn't there meets
+    none but the null tests."""
     if name in NULLS:
         return lambda value: value is None
     if name == "PropertyIsBetween" and len(literals) == 2:
-        return lambda value: value is not None and compared(operator.ge, value, literals[0]) and compared(operator.le, value, literals[1])
+        return (
+            lambda value: value is not None
+            and compared(operator.ge, value, literals[0])
+            and compared(operator.le, value, literals[1])
+        )
     if name == "PropertyIsLike" and len(literals) == 1:
         parts = parts_of_like(element, literals[0])
         return lambda value: value is not None and is_like(parts, str(value))
@@ -136,8 +145,8 @@ def value_test(name: str, element: Element, literals: list[str]) -> ValueTest | 
 
 
 def parts_of_like(element: Element, literal: str) -> list[tuple[int, re.Pattern[str]]]:
-    """What a PropertyIsLike has between its wildcards: the length and the regular expression of each part. In one expression of all, each wildcard
-    would multiply the time by the length of the text."""
+    """What a PropertyIsLike has between its wildcards: the length and the regular expression of each part. In one
+    expression of all, each wildcard would multiply the time by the length of the text."""
     wild, single = element.get("wildCard"), element.get("singleChar")
     escape, letters = element.get("escapeChar", element.get("escape")), iter(literal)
     made: list[list[str]] = [[]]
@@ -155,8 +164,8 @@ def parts_of_like(element: Element, literal: str) -> list[tuple[int, re.Pattern[
 
 
 def is_like(parts: list[tuple[int, re.Pattern[str]]], text: str) -> bool:
-    """Whether a text has these parts in their order: the first one at its beginning, the last one at its end, and each between them as soon as it
-    comes."""
+    """Whether a text has these parts in their order: the first one at its beginning, the last one at its end, and each
+    between them as soon as it comes."""
     (at, first), *others = parts
     if not others:
         return bool(first.fullmatch(text))

@@ -1,5 +1,6 @@
-"""What a gateway knows of each feature of a map that it doesn't hold: its id and its table, 12 bytes, and of pieces of cut features what they are pieces
-of. Of each table it knows how many features it has; columns, zooms and the box of it only grow until the map is listed anew. Needs no package."""
+"""What a gateway knows of each feature of a map that it doesn't hold: its id and its table, 12 bytes, and of pieces of
+cut features what they are pieces of. Of each table it knows how many features it has; columns, zooms and the box of it
+only grow until the map is listed anew. Needs no package."""
 from __future__ import annotations
 
 import hashlib
@@ -90,7 +91,8 @@ class Index:
             self.see(before)
 
     def see(self, named: tuple[int, bytes]) -> None:
-        """Sees which pieces of a group are shown: the first one as the whole, or each of them if there is no first one."""
+        """Sees which pieces of a group are shown: the first one as the whole, or each of them if there is no first
+        one."""
         group = self.groups[named]
         for number, piece in group.items():
             if named[0] not in group:
@@ -139,8 +141,11 @@ class Index:
 
     def wholes(self, key: Key) -> list[tuple[int, Box]]:
         """The wholes of a table with their boxes, in the order of their ids."""
-        found = [(number, around([piece.box for piece in group.values()])) for (number, _), group in self.groups.items()
-                 if number in group and group[number].key == key]
+        found = [
+            (number, around([piece.box for piece in group.values()]))
+            for (number, _), group in self.groups.items()
+            if number in group and group[number].key == key
+        ]
         return sorted(found)
 
     def ids_of(self, key: Key, first: int) -> Iterator[int]:

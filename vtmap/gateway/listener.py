@@ -31,33 +31,45 @@ WFS, OGC = "/wfs", "/ogc"
 HISTORY = re.compile("/wfs/history/([0-9]{1,19})")
 # Where the schema is read, and where it gets more.
 SCHEMAS, SCHEMA = ("/wfs/schema.json", "/ogc/schema.json"), "/wfs/schema.json"
-# Where open pages are told of edits, and after how many seconds without one they are told that nothing has happened. How often they are told at most.
+# Where open pages are told of edits, and after how many seconds without one they are told that nothing has happened.
+# How often they are told at most.
 EVENTS, HEARTBEAT, SELDOM = "/wfs/events", 15, 0.2
 # The methods of what is only read.
 READ = "GET, HEAD, OPTIONS"
 XML, TEXT, EVENT_STREAM = "text/xml; charset=utf-8", "text/plain; charset=utf-8", "text/event-stream"
 # The media types of a Transaction and of a schema, and the methods that change nothing.
-KINDS_OF_XML, KINDS_OF_JSON, READS = ("text/xml", "application/xml", "application/gml+xml"), ("application/json",), ("GET", "HEAD", "OPTIONS")
+KINDS_OF_XML, KINDS_OF_JSON, READS = (
+    ("text/xml", "application/xml", "application/gml+xml"),
+    ("application/json",),
+    ("GET", "HEAD", "OPTIONS"),
+)
 HERE = "127.0.0.1"
-# The names by which a client, or the proxy in front, reaches this. A web page could rebind its own name to this address, and edit the map.
+# The names by which a client, or the proxy in front, reaches this. A web page could rebind its own name to this
+# address, and edit the map.
 HOSTS = re.compile(r"(127\.0\.0\.1|localhost|\[::1\])(:[0-9]+)?", re.IGNORECASE)
-# What a browser may do with a reply: show it as what it says that it is, run nothing of it, and show it in no other page.
-SAFETY = [("X-Content-Type-Options", "nosniff"), ("Content-Security-Policy", "default-src 'none'; frame-ancestors 'none'; sandbox")]
+# What a browser may do with a reply: show it as what it says that it is, run nothing of it, and show it in no other
+# page.
+SAFETY = [
+    ("X-Content-Type-Options", "nosniff"),
+    ("Content-Security-Policy", "default-src 'none'; frame-ancestors 'none'; sandbox"),
+]
 # The most bytes of a Transaction, of all bodies at once, and those from which on a reply is compressed.
-MOST_BODY, MOST_BODIES, LEAST_GZIP = 32 * 2 ** 20, 256 * 2 ** 20, 2000
-# Seconds after which a connection without a request is closed, and one that stops in the middle of a request or takes nothing of its reply; the bytes
-# of a second that a body or a reply takes at least beside these; and the seconds for which what a refused client sends yet is read.
-IDLE, PAUSE, SLOWEST, LINGER = 300, 30, 64 * 2 ** 10, 2
+MOST_BODY, MOST_BODIES, LEAST_GZIP = 32 * 2**20, 256 * 2**20, 2000
+# Seconds after which a connection without a request is closed, and one that stops in the middle of a request or takes
+# nothing of its reply; the bytes of a second that a body or a reply takes at least beside these; and the seconds for
+# which what a refused client sends yet is read.
+IDLE, PAUSE, SLOWEST, LINGER = 300, 30, 64 * 2**10, 2
 # The bytes of a file that are sent at once.
-CHUNK = 2 ** 17
+CHUNK = 2**17
 # A field of a reply, and those of one.
 Field = tuple[str, Any]
 Fields = list[Field]
 
 
 class Handler(BaseHTTPRequestHandler):
-    """One connection. `maps` has the maps, `map` is the one that a request is for, and `prefix` what its path has before that of the map.
-    `is_behind_nginx`: whether nginx says who sends a request. `is_public`: whether pages of other origins may read."""
+    """One connection. `maps` has the maps, `map` is the one that a request is for, and `prefix` what its path has
+    before that of the map. `is_behind_nginx`: whether nginx says who sends a request. `is_public`: whether pages of
+    other origins may read."""
 
     protocol_version = "HTTP/1.1"
     disable_nagle_algorithm = True
@@ -109,8 +121,9 @@ class Handler(BaseHTTPRequestHandler):
         return True
 
     def is_foreign(self) -> bool:
-        """Whether a page of another origin asks for a change. A browser names the origin of the page with such a request, other programs name none.
-        The scheme isn't compared: a proxy may take https and pass on http. No page can send X-Forwarded-Host without the browser asking first."""
+        """Whether a page of another origin asks for a change. A browser names the origin of the page with such a
+        request, other programs name none. The scheme isn't compared: a proxy may take https and pass on http. No page
+        can send X-Forwarded-Host without the browser asking first."""
         return self.command not in READS and self.is_of_other(self.headers.get_all("origin", []))
 
     def is_of_other(self, origins: list[str]) -> bool:
@@ -146,8 +159,11 @@ class Handler(BaseHTTPRequestHandler):
             self.reply(404, b"NotFound", TEXT)
             return
         given = {name.lower(): value for name, value in given.items()}
-        self.answer_wfs(wfs_texts.chosen(given.get("version", wfs_texts.V2.name)), "InvalidParameterValue",
-                        lambda: self.map.wfs.answer(session, given, self.address(WFS)))
+        self.answer_wfs(
+            wfs_texts.chosen(given.get("version", wfs_texts.V2.name)),
+            "InvalidParameterValue",
+            lambda: self.map.wfs.answer(session, given, self.address(WFS)),
+        )
 
     do_HEAD = do_GET
 
@@ -157,7 +173,11 @@ class Handler(BaseHTTPRequestHandler):
         if path == FILES:
             file_paths.take(self, self.map.files, path)
             return
-        session, length, is_meant = session_in(path), self.length(), ("delete-many", "true") in urllib.parse.parse_qsl(query)
+        session, length, is_meant = (
+            session_in(path),
+            self.length(),
+            ("delete-many", "true") in urllib.parse.parse_qsl(query),
+        )
         most, kinds = (map_schema.MOST_BYTES, KINDS_OF_JSON) if path == SCHEMA else (MOST_BODY, KINDS_OF_XML)
         if is_read_only(path):
             self.not_allowed()
@@ -168,14 +188,19 @@ class Handler(BaseHTTPRequestHandler):
         elif session is None and path != SCHEMA:
             self.refuse(404, "NotFound")
         elif self.headers.get_content_type() not in kinds:
-            # A web page can make a browser post text or a form to any server, also with a parameter that has "xml" in it. For XML of another origin
-            # the browser asks first.
+            # A web page can make a browser post text or a form to any server, also with a parameter that has "xml" in
+            # it. For XML of another origin the browser asks first.
             self.refuse(415, f"{kinds[0]} is needed")
         elif not self.server.bodies.take(length):
             self.refuse(503, "others are sending very much just now")
         else:
             try:
-                self.post(lambda body: self.add_to_schema(body) if session is None else self.transact(session, body, is_meant), length)
+                self.post(
+                    lambda body: self.add_to_schema(body)
+                    if session is None
+                    else self.transact(session, body, is_meant),
+                    length,
+                )
             finally:
                 self.server.bodies.take(-length)
 
@@ -194,7 +219,11 @@ class Handler(BaseHTTPRequestHandler):
     def transact(self, session: str, body: bytes, is_meant: bool) -> None:
         """Makes a Transaction, or answers a request by XML that reads."""
         body = body if self.map.files is None else file_paths.by_paths(body, self.map.files)
-        self.answer_wfs(wfs_texts.V1, "OperationProcessingFailed", lambda: self.map.wfs.posted(session, body, self.address(WFS), self.person(), is_meant))
+        self.answer_wfs(
+            wfs_texts.V1,
+            "OperationProcessingFailed",
+            lambda: self.map.wfs.posted(session, body, self.address(WFS), self.person(), is_meant),
+        )
 
     def answer_history(self, number: int) -> None:
         """Sends what has become of a feature."""
@@ -212,8 +241,9 @@ class Handler(BaseHTTPRequestHandler):
     # ---- edits, as they are made
 
     def answer_events(self) -> None:
-        """Tells a page of each edit, as an event stream, until the page or the server is gone: its number alone, of several the last one. A page of
-        another origin isn't told: no reply lets it read this, but it would keep a thread."""
+        """Tells a page of each edit, as an event stream, until the page or the server is gone: its number alone, of
+        several the last one. A page of another origin isn't told: no reply lets it read this, but it would keep a
+        thread."""
         site = self.headers.get("sec-fetch-site", "same-origin")
         if self.is_of_other(self.headers.get_all("origin", [])) or site not in ("same-origin", "none"):
             self.refuse(403, "a page of another origin asks")
@@ -228,7 +258,12 @@ class Handler(BaseHTTPRequestHandler):
     def tell_edits(self) -> None:
         """Sends the event stream."""
         self.close_connection = True
-        fields: Fields = [("Content-Type", EVENT_STREAM), ("Cache-Control", "no-store"), ("X-Accel-Buffering", "no"), *SAFETY]
+        fields: Fields = [
+            ("Content-Type", EVENT_STREAM),
+            ("Cache-Control", "no-store"),
+            ("X-Accel-Buffering", "no"),
+            *SAFETY,
+        ]
         told, last = -1, self.map.events.last
         try:
             self.connection.settimeout(PAUSE)
@@ -279,7 +314,9 @@ class Handler(BaseHTTPRequestHandler):
     def length(self) -> int | None:
         """The length of the body, None if it isn't said once."""
         said = self.headers.get_all("content-length", [])
-        is_said = len(said) == 1 and re.fullmatch("[0-9]{1,12}", said[0].strip()) and "transfer-encoding" not in self.headers
+        is_said = (
+            len(said) == 1 and re.fullmatch("[0-9]{1,12}", said[0].strip()) and "transfer-encoding" not in self.headers
+        )
         return int(said[0]) if is_said else None
 
     def body(self, length: int) -> bytes | None:
@@ -290,7 +327,7 @@ class Handler(BaseHTTPRequestHandler):
         try:
             while len(parts) < length:
                 self.connection.settimeout(max(min(end - time.monotonic(), PAUSE), 0.001))
-                part = self.rfile.read1(min(length - len(parts), 2 ** 16))  # type: ignore[attr-defined]
+                part = self.rfile.read1(min(length - len(parts), 2**16))  # type: ignore[attr-defined]
                 if not part:
                     return None
                 parts += part
@@ -301,7 +338,8 @@ class Handler(BaseHTTPRequestHandler):
     def address(self, path: str) -> str:
         """The address by which the client reaches a path: through a proxy, that which the proxy says."""
         host = self.headers.get("x-forwarded-host", self.headers.get("host", HERE))
-        return f"{self.headers.get('x-forwarded-proto', 'http')}://{host}{self.headers.get('x-forwarded-prefix', '')}{self.prefix}{path}"
+        scheme, before = self.headers.get("x-forwarded-proto", "http"), self.headers.get("x-forwarded-prefix", "")
+        return f"{scheme}://{host}{before}{self.prefix}{path}"
 
     def person(self) -> str:
         """Who sends a request: what nginx says of it, a name or an address; without nginx anybody can say anything."""
@@ -323,7 +361,11 @@ class Handler(BaseHTTPRequestHandler):
             text = wfs_texts.report(version, code, "the request is nested too deep")
         except Exception as fault:
             text = wfs_texts.report(version, "NoApplicableCode", broken(fault))
-        changed = (lambda part: part) if self.map.files is None else lambda part: file_paths.by_addresses(part, self.address("/"))
+        changed = (
+            (lambda part: part)
+            if self.map.files is None
+            else lambda part: file_paths.by_addresses(part, self.address("/"))
+        )
         if isinstance(text, Spooled):
             is_zipped = "gzip" in self.headers.get("accept-encoding", "")
             self.reply_by_file(*text.packed(changed, is_zipped), XML, is_zipped)
@@ -350,13 +392,24 @@ class Handler(BaseHTTPRequestHandler):
 
     def readable(self) -> Fields:
         """What lets pages of other origins read a reply, if they may."""
-        return [("Access-Control-Allow-Origin", "*"), ("Access-Control-Expose-Headers", "Content-Crs, Content-Disposition")] if self.is_public else []
+        return (
+            [
+                ("Access-Control-Allow-Origin", "*"),
+                ("Access-Control-Expose-Headers", "Content-Crs, Content-Disposition"),
+            ]
+            if self.is_public
+            else []
+        )
 
     def do_OPTIONS(self) -> None:
         """Says what may be asked of a path."""
         path = self.path.partition("?")[0]
         if is_read_only(path):
-            asked = [("Access-Control-Allow-Methods", READ), ("Access-Control-Allow-Headers", "*"), *self.readable()] if self.is_public else []
+            asked = (
+                [("Access-Control-Allow-Methods", READ), ("Access-Control-Allow-Headers", "*"), *self.readable()]
+                if self.is_public
+                else []
+            )
             self.reply(204, b"", None, [("Allow", READ), *asked])
         elif path == SCHEMA or session_in(path) is not None:
             self.reply(204, b"", None, [("Allow", f"{READ}, POST")])
@@ -369,7 +422,11 @@ class Handler(BaseHTTPRequestHandler):
         if path.startswith(FILES):
             self.refuse(405, "the method isn't taken here", [("Allow", f"{READ}, POST, PUT")])
         elif is_read_only(path) or path == SCHEMA or session_in(path) is not None:
-            self.refuse(405, "the method isn't taken here", [("Allow", READ if is_read_only(path) else f"{READ}, POST"), *self.readable()])
+            self.refuse(
+                405,
+                "the method isn't taken here",
+                [("Allow", READ if is_read_only(path) else f"{READ}, POST"), *self.readable()],
+            )
         else:
             self.refuse(404, "NotFound")
 
@@ -396,7 +453,14 @@ class Handler(BaseHTTPRequestHandler):
     def head_of(self, status: int, fields: Fields) -> bytes:
         """The head of a reply with these fields."""
         fields = [*fields, ("Connection", "close")] if self.close_connection else fields
-        return "\r\n".join([f"HTTP/1.1 {status} {http.HTTPStatus(status).phrase}", *(f"{name}: {value}" for name, value in fields), "", ""]).encode()
+        return "\r\n".join(
+            [
+                f"HTTP/1.1 {status} {http.HTTPStatus(status).phrase}",
+                *(f"{name}: {value}" for name, value in fields),
+                "",
+                "",
+            ]
+        ).encode()
 
     def write(self, status: int, data: bytes, fields: Fields) -> None:
         """Writes a reply with these fields."""
@@ -420,10 +484,18 @@ class Handler(BaseHTTPRequestHandler):
 
     def reply_by_file(self, made: Spool, length: int, kind: str, is_zipped: bool, more: Iterable[Field] = ()) -> None:
         """Sends a reply that is in a file."""
-        fields: Fields = [("Content-Type", kind), ("Content-Length", length), ("Cache-Control", "no-store"), *SAFETY, *more]
+        fields: Fields = [
+            ("Content-Type", kind),
+            ("Content-Length", length),
+            ("Cache-Control", "no-store"),
+            *SAFETY,
+            *more,
+        ]
         try:
             self.connection.settimeout(PAUSE + length / SLOWEST)
-            self.connection.sendall(self.head_of(200, [*fields, *([("Content-Encoding", "gzip")] if is_zipped else [])]))
+            self.connection.sendall(
+                self.head_of(200, [*fields, *([("Content-Encoding", "gzip")] if is_zipped else [])])
+            )
             while self.command != "HEAD" and (part := made.file.read(CHUNK)):
                 self.connection.sendall(part)
         except OSError:
@@ -441,7 +513,7 @@ class Handler(BaseHTTPRequestHandler):
             self.connection.shutdown(socket.SHUT_WR)
             while (left := end - time.monotonic()) > 0:
                 self.connection.settimeout(left)
-                if not self.connection.recv(2 ** 16):
+                if not self.connection.recv(2**16):
                     break
         except OSError:
             pass

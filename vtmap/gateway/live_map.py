@@ -40,15 +40,18 @@ class Found(Protocol[Asked, Got]):
 class Features(Found[int, Feature], Protocol):
     """The features of the map by their ids, and how many they are."""
 
-    def __len__(self) -> int: ...
+    def __len__(self) -> int:
+        ...
 
-    def __contains__(self, number: object, /) -> bool: ...
+    def __contains__(self, number: object, /) -> bool:
+        ...
 
 
 class LiveMap:
-    """The features of the map up to the edit `edits`, None before it is listed. `further`: types of tags by layer and kind, for tables and columns that
-    the map doesn't have yet. `log`: what keeps the tables that lost their last feature. Whoever uses it holds `lock`. Features are asked for by `now`,
-    as people see them by `views`, and as somebody has got them by `known`."""
+    """The features of the map up to the edit `edits`, None before it is listed. `further`: types of tags by layer and
+    kind, for tables and columns that the map doesn't have yet. `log`: what keeps the tables that lost their last
+    feature. Whoever uses it holds `lock`. Features are asked for by `now`, as people see them by `views`, and as
+    somebody has got them by `known`."""
 
     # Whether features are read as they are asked for, and not held.
     is_far = False
@@ -56,7 +59,13 @@ class LiveMap:
     views: Found[int, View]
     known: Found[Version, Feature]
 
-    def __init__(self, client: Leader, further: Mapping[Key, Mapping[str, str]], log: SaveLog | None = None, schema: SchemaFile | None = None) -> None:
+    def __init__(
+        self,
+        client: Leader,
+        further: Mapping[Key, Mapping[str, str]],
+        log: SaveLog | None = None,
+        schema: SchemaFile | None = None,
+    ) -> None:
         self.client, self.further, self.log, self.lock = client, further, log, threading.RLock()
         # Of a machine with several maps, the name of this one, which is printed before what is told of it.
         self.name = ""
@@ -72,7 +81,11 @@ class LiveMap:
         self.shown, self.members = dict[int, View](), defaultdict[Key, dict[int, View]](dict)
         self.versions = dict[Version, Feature]()
         self.now, self.views, self.known = self.features, self.shown, self.versions
-        self.made_tables, self.changed_tables = dict[Key, Table](), {*self.further, *self.emptied, *self.schema.now.tables()}
+        self.made_tables, self.changed_tables = dict[Key, Table](), {
+            *self.further,
+            *self.emptied,
+            *self.schema.now.tables(),
+        }
 
     def tell(self, text: str) -> None:
         """Prints a line about the map."""
@@ -103,7 +116,8 @@ class LiveMap:
         self.tell(f"the map has {len(now):,} features at edit {edits:,}")
 
     def follow(self, at: int) -> bool:
-        """Takes the edits since the last one that is known. Returns whether the server lists them, and they aren't too many."""
+        """Takes the edits since the last one that is known. Returns whether the server lists them, and they aren't too
+        many."""
         while True:
             try:
                 edits, last = self.client.edits_from(at + 1)
@@ -123,7 +137,8 @@ class LiveMap:
                 return True
 
     def take_edits(self, edits: Iterable[ListedEdit]) -> None:
-        """Takes edits of the feed, the first of which is the one after the last that is known. Others, and very many, are left to the next look."""
+        """Takes edits of the feed, the first of which is the one after the last that is known. Others, and very many,
+        are left to the next look."""
         with self.lock:
             for edit in edits:
                 if self.edits is not None and edit["edit"] == self.edits + 1:
@@ -131,7 +146,8 @@ class LiveMap:
                     self.edits = edit["edit"]
 
     def made(self, changes: Iterable[Change], number: int) -> None:
-        """Takes own changes, which are the edit of a number. What others did before it is followed later, and then these changes again."""
+        """Takes own changes, which are the edit of a number. What others did before it is followed later, and then
+        these changes again."""
         self.take({change.number: feature_of(change.body) for change in changes})
         if self.edits is not None and number == self.edits + 1:
             self.edits = number
@@ -169,7 +185,11 @@ class LiveMap:
         if len(key) > 1:
             pieces = dict(sorted(self.groups.get(key, {}).items()))
         else:
-            pieces = {number: self.features[number]} if number in self.features and not group_of(self.features[number], WHOLE) else {}
+            pieces = (
+                {number: self.features[number]}
+                if number in self.features and not group_of(self.features[number], WHOLE)
+                else {}
+            )
         for piece in pieces:
             self.hide(piece)
         if len(key) > 1 and number in pieces:
@@ -206,7 +226,8 @@ class LiveMap:
         return {table.name: table for _, table in sorted(self.made_tables.items())}
 
     def empty(self, key: Key, past: Past) -> None:
-        """Keeps what a table had that has lost its last feature: a GIS that shows it may add features again. Of very many the oldest one goes."""
+        """Keeps what a table had that has lost its last feature: a GIS that shows it may add features again. Of very
+        many the oldest one goes."""
         self.emptied.pop(key, None)
         self.emptied[key] = past
         while len(self.emptied) > MOST_EMPTIED:
@@ -228,7 +249,8 @@ class LiveMap:
         return self.schema.now
 
     def add_to_schema(self, more: Schema) -> Schema:
-        """Adds what another schema has more to the file. A layer that the file doesn't name gets what the map has of it, too. Returns the schema."""
+        """Adds what another schema has more to the file. A layer that the file doesn't name gets what the map has of
+        it, too. Returns the schema."""
         new = [name for name in more.layers if name not in self.schema.read().layers]
         there = schema_of(self.features_of(new))
         self.schema.add(there.added(more))
@@ -236,7 +258,13 @@ class LiveMap:
 
     def features_of(self, layers: Iterable[str]) -> Iterator[Feature]:
         """The features of layers, for their schema."""
-        yield from (view.feature for name in layers for key, views in self.members.items() if key[0] == name for view in views.values())
+        yield from (
+            view.feature
+            for name in layers
+            for key, views in self.members.items()
+            if key[0] == name
+            for view in views.values()
+        )
 
     # ---- versions
 

@@ -1,5 +1,5 @@
-"""The maps of a machine, for one gateway of all (`vtmap wfs --maps`): each is opened by the first request for it, and gives up its memory once nobody
-asks. Needs no package."""
+"""The maps of a machine, for one gateway of all (`vtmap wfs --maps`): each is opened by the first request for it, and
+gives up its memory once nobody asks. Needs no package."""
 from __future__ import annotations
 
 import argparse
@@ -23,8 +23,13 @@ LOOK = 30
 
 def words_of(words: argparse.Namespace, one: MapHere) -> argparse.Namespace:
     """The words of the command for one of the maps. Raises `Wrong`."""
+
     def named(value: Any) -> Any:
-        return [named(each) for each in value] if isinstance(value, list) else value and value.format(map=one.name, port=one.port, gateway=one.gateway)
+        return (
+            [named(each) for each in value]
+            if isinstance(value, list)
+            else value and value.format(map=one.name, port=one.port, gateway=one.gateway)
+        )
 
     try:
         return argparse.Namespace(**{**vars(words), **{name: named(getattr(words, name)) for name in NAMED}})
@@ -49,8 +54,9 @@ class Maps:
         self.lock, self.places = threading.Lock(), dict[str, Place]()
 
     def entered(self, path: str, named: str | None) -> tuple[OneMap | None, str]:
-        """The map that a request is for, which is under way from now on, and what its path has before that of the map: its name, unless nginx has said
-        that in a field. None: there is no such map. Raises `Refused` if it can't be opened."""
+        """The map that a request is for, which is under way from now on, and what its path has before that of the map:
+        its name, unless nginx has said that in a field. None: there is no such map. Raises `Refused` if it can't be
+        opened."""
         name = named or path[1:].partition("?")[0].partition("/")[0]
         one = self.open(name) if NAME.fullmatch(name) else None
         return one, "" if named else f"/{name}"

@@ -1,4 +1,5 @@
-"""The requests of OGC API Features (Part 1: Core, Part 2: coordinate systems), answered: whatever reads GeoJSON reads the map of now. Needs no package."""
+"""The requests of OGC API Features (Part 1: Core, Part 2: coordinate systems), answered: whatever reads GeoJSON reads
+the map of now. Needs no package."""
 from __future__ import annotations
 
 import itertools
@@ -46,7 +47,8 @@ class OgcApi:
         self.live, self.look, self.systems = live, look, systems or Systems()
 
     def answer(self, path: str, given: Given, address: str) -> tuple[str, bytes | Spool, Fields]:
-        """The media type, the content and further fields of the reply to a request. `path`: what comes after the address."""
+        """The media type, the content and further fields of the reply to a request. `path`: what comes after the
+        address."""
         with self.live.lock:
             self.look()
             tables = self.live.tables()
@@ -59,7 +61,13 @@ class OgcApi:
         else:
             kind, found = whole(parts, tables.values(), address, self.systems.names)
             see_names(given, ())
-        return kind, found if isinstance(found, (bytes, Spool)) else json.dumps(found, ensure_ascii=False, separators=(",", ":")).encode(), fields
+        return (
+            kind,
+            found
+            if isinstance(found, (bytes, Spool))
+            else json.dumps(found, ensure_ascii=False, separators=(",", ":")).encode(),
+            fields,
+        )
 
     def collection(
         self, parts: list[str], tables: Mapping[str, Table], given: Given, address: str
@@ -90,7 +98,10 @@ class OgcApi:
             view = self.live.views.get(int(text)) if re.fullmatch("[0-9]{1,19}", text) else None
         if view is None or view.key != (table.layer, table.kind):
             raise Unknown(f"{table.name} has no feature {text}")
-        links = [ogc_texts.link("self", GEOJSON, f"{here}/items/{view.number}", "this feature"), ogc_texts.link("collection", JSON, here, table.title)]
+        links = [
+            ogc_texts.link("self", GEOJSON, f"{here}/items/{view.number}", "this feature"),
+            ogc_texts.link("collection", JSON, here, table.title),
+        ]
         return {**geojson(view, system), "links": links}
 
 
@@ -127,8 +138,16 @@ def download(table: Table, given: Given, system: System, box_system: System) -> 
         raise Refused("a GeoPackage is written in Web Mercator: leave crs out")
     fields = [("Content-Disposition", f"attachment; filename*=UTF-8''{urllib.parse.quote(table.name, safe='')}.{form}")]
     if isinstance(table, FarTable):
-        return (CSV, csv_file_of(table, found, system), fields) if form == "csv" else (GEOPACKAGE, geopackage_file_of(table, found), fields)
-    return (CSV, csv_of(table, found, system), fields) if form == "csv" else (GEOPACKAGE, geopackage_of(table, found), fields)
+        return (
+            (CSV, csv_file_of(table, found, system), fields)
+            if form == "csv"
+            else (GEOPACKAGE, geopackage_file_of(table, found), fields)
+        )
+    return (
+        (CSV, csv_of(table, found, system), fields)
+        if form == "csv"
+        else (GEOPACKAGE, geopackage_of(table, found), fields)
+    )
 
 
 def items(table: Table, given: Given, here: str, system: System, box_system: System) -> Document:
@@ -146,18 +165,34 @@ def items(table: Table, given: Given, here: str, system: System, box_system: Sys
         left = [view for view in every if view.number > after] if "after" in given else every
         matched = {"numberMatched": len(every)}
     page = left[:limit]
-    links = [ogc_texts.link("self", GEOJSON, with_query(here, given), "this page"), ogc_texts.link("collection", JSON, here, table.title)]
+    links = [
+        ogc_texts.link("self", GEOJSON, with_query(here, given), "this page"),
+        ogc_texts.link("collection", JSON, here, table.title),
+    ]
     if len(left) > limit:
-        links.append(ogc_texts.link("next", GEOJSON, with_query(here, {**given, "after": str(page[-1].number)}), "the next page"))
+        links.append(
+            ogc_texts.link("next", GEOJSON, with_query(here, {**given, "after": str(page[-1].number)}), "the next page")
+        )
     plain = {name: value for name, value in given.items() if name not in ("limit", "after", "f", "crs")}
-    links += [ogc_texts.link("alternate", kind.split(";")[0], with_query(here, {**plain, "f": form}), f"all of them as {named}")
-              for form, kind, named in (("csv", CSV, "CSV"), ("gpkg", GEOPACKAGE, "GeoPackage"))]
-    return {"type": "FeatureCollection", "features": [geojson(view, system) for view in page], "links": links, **matched,
-            "numberReturned": len(page), "timeStamp": time.strftime("%Y-%m-%dT%H:%M:%SZ", time.gmtime())}
+    links += [
+        ogc_texts.link(
+            "alternate", kind.split(";")[0], with_query(here, {**plain, "f": form}), f"all of them as {named}"
+        )
+        for form, kind, named in (("csv", CSV, "CSV"), ("gpkg", GEOPACKAGE, "GeoPackage"))
+    ]
+    return {
+        "type": "FeatureCollection",
+        "features": [geojson(view, system) for view in page],
+        "links": links,
+        **matched,
+        "numberReturned": len(page),
+        "timeStamp": time.strftime("%Y-%m-%dT%H:%M:%SZ", time.gmtime()),
+    }
 
 
 def matched_of(table: Table, given: Given, left: list[View], limit: int) -> Document:
-    """How many features of a map that isn't held a request asks for, if that is known without reading them all: the standard lets it be left out."""
+    """How many features of a map that isn't held a request asks for, if that is known without reading them all: the
+    standard lets it be left out."""
     if not [name for name in given if name not in ("limit", "after", "f", "crs", "datetime", "bbox-crs")]:
         return {"numberMatched": table.count}
     return {"numberMatched": len(left)} if len(left) <= limit and "after" not in given else {}
@@ -168,7 +203,11 @@ def is_asked(view: View, table: Table, boxes: list[Box], given: Given) -> bool:
     if boxes and not any(meets(view.box, box) for box in boxes):
         return False
     tags = view.feature["tags"]
-    return all(text_of(tags.get(tag), form) == given[tag] for tag, form in table.columns.values() if tag in given and tag not in PARAMETERS)
+    return all(
+        text_of(tags.get(tag), form) == given[tag]
+        for tag, form in table.columns.values()
+        if tag in given and tag not in PARAMETERS
+    )
 
 
 def with_query(here: str, given: Given) -> str:
@@ -212,4 +251,10 @@ def geojson(view: View, system: System) -> Document:
     """A feature, its rings in the directions of GeoJSON."""
     feature = right_handed(view.feature)
     rest = {name: feature[name] for name in ("layer", "minzoom", "maxzoom")}
-    return {"type": "Feature", "id": view.number, **rest, "properties": feature["tags"], "geometry": system.geometry(feature["geometry"])}
+    return {
+        "type": "Feature",
+        "id": view.number,
+        **rest,
+        "properties": feature["tags"],
+        "geometry": system.geometry(feature["geometry"]),
+    }

@@ -21,14 +21,17 @@ from .wfs import Wfs
 
 
 class OneMap:
-    """A map. `words`: those of `vtmap wfs` for it. `name`: where a machine has several, its name. Raises `Refused` if another gateway has its files."""
+    """A map. `words`: those of `vtmap wfs` for it. `name`: where a machine has several, its name. Raises `Refused` if
+    another gateway has its files."""
 
     def __init__(self, words: argparse.Namespace, systems: Systems, name: str = "") -> None:
         self.log, self.sessions = SaveLog(words.state), Sessions()
         self.log.shorten(time.time() - FORGOTTEN)
         for row in self.log.done:
             self.sessions.restore(row)
-        self.live = FarMap(Leader(words.url, words.publish), dict(words.layer), self.log, SchemaFile(words.schema), words.held)
+        self.live = FarMap(
+            Leader(words.url, words.publish), dict(words.layer), self.log, SchemaFile(words.schema), words.held
+        )
         self.live.name = name
         self.wfs = Wfs(self.live, self.sessions, Saves(self.live, self.log, words.log))
         self.ogc = OgcApi(self.live, self.wfs.look, systems)
@@ -81,7 +84,8 @@ class OnlyMap:
         self.one.begin()
 
     def entered(self, _path: str, _named: str | None) -> tuple[OneMap | None, str]:
-        """The map that a request is for, which is under way from now on, and what its path has before that of the map."""
+        """The map that a request is for, which is under way from now on, and what its path has before that of the
+        map."""
         self.one.enter(1)
         return self.one, ""
 

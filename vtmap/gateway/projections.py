@@ -1,5 +1,5 @@
-"""The coordinate systems in which features are read: longitude and latitude, and by GDAL's projections others (OGC API Features, Part 2). Needs GDAL's
-Python module for the others alone."""
+"""The coordinate systems in which features are read: longitude and latitude, and by GDAL's projections others (OGC API
+Features, Part 2). Needs GDAL's Python module for the others alone."""
 from __future__ import annotations
 
 import math
@@ -19,7 +19,8 @@ if TYPE_CHECKING:
 
 CRS84, EPSG = "http://www.opengis.net/def/crs/OGC/1.3/CRS84", "http://www.opengis.net/def/crs/EPSG/0/"
 MERCATOR = 3857
-# Those that are offered: WGS 84, ETRS89, Web Mercator, ETRS89 in UTM zones of Europe, and its two projections of all of Europe.
+# Those that are offered: WGS 84, ETRS89, Web Mercator, ETRS89 in UTM zones of Europe, and its two projections of all of
+# Europe.
 USUAL = (4326, 4258, MERCATOR, *range(25828, 25838), 3034, 3035)
 # Digits of a degree, a hundredth of a square of the map; and of a metre.
 DIGITS, DIGITS_OF_METRES = 8, 3
@@ -35,19 +36,28 @@ class System:
         return [tuple(degrees(point)) for point in points]
 
     def box(self, parts: Sequence[float]) -> list[Box]:
-        """The boxes of the map of one in this system, as west, south, east and north: two if it crosses the 180th meridian."""
+        """The boxes of the map of one in this system, as west, south, east and north: two if it crosses the 180th
+        meridian."""
         west, south, east, north = parts
         if not (abs(west) <= 180 >= abs(east) and -90 <= south <= north <= 90):
             raise Refused(f"bbox has four numbers, west, south, east and north in degrees: {','.join(map(str, parts))}")
         if west > east:
             return [*self.box((west, south, 180, north)), *self.box((-180, south, east, north))]
-        (left, top), (right, bottom) = (shares(x, min(max(y, -89.99), 89.99)) for x, y in ((west, north), (east, south)))
+        (left, top), (right, bottom) = (
+            shares(x, min(max(y, -89.99), 89.99)) for x, y in ((west, north), (east, south))
+        )
         return [(left * WORLD, top * WORLD, right * WORLD, bottom * WORLD)]
 
     def geometry(self, geometry: Geometry) -> dict[str, Any]:
         """A geometry of GeoJSON, whose rings have their directions, with its coordinates in this system."""
-        (kind, parts), = geometry.items()
-        lines = [parts] if kind == "points" else parts if kind == "lines" else [[*ring, ring[0]] for rings in parts for ring in rings]
+        ((kind, parts),) = geometry.items()
+        lines = (
+            [parts]
+            if kind == "points"
+            else parts
+            if kind == "lines"
+            else [[*ring, ring[0]] for rings in parts for ring in rings]
+        )
         moved = iter(self.written(self.places([point for line in lines for point in line])))
         made = [[next(moved) for _ in line] for line in lines]
         if kind == "points":
@@ -70,6 +80,7 @@ class Projected(System):
 
     def __init__(self, code: int) -> None:
         from osgeo import osr
+
         osr.UseExceptions()
         self.name, self.osr, self.own = f"{EPSG}{code}", osr, threading.local()
         self.here, self.other = osr.SpatialReference(), osr.SpatialReference()
@@ -84,7 +95,11 @@ class Projected(System):
         """The transformation of this thread, to this system or back."""
         name = "back" if is_back else "there"
         if not hasattr(self.own, name):
-            setattr(self.own, name, self.osr.CoordinateTransformation(*((self.other, self.here) if is_back else (self.here, self.other))))
+            setattr(
+                self.own,
+                name,
+                self.osr.CoordinateTransformation(*((self.other, self.here) if is_back else (self.here, self.other))),
+            )
         return getattr(self.own, name)
 
     def places(self, points: Iterable[Sequence[float]]) -> list[tuple[float, ...]]:
@@ -123,11 +138,14 @@ class Mercator(System):
 
 def geojson(name: str, parts: list) -> dict[str, Any]:
     """A geometry of GeoJSON of one part, or of several."""
-    return {"type": name, "coordinates": parts[0]} if len(parts) == 1 else {"type": f"Multi{name}", "coordinates": parts}
+    return (
+        {"type": name, "coordinates": parts[0]} if len(parts) == 1 else {"type": f"Multi{name}", "coordinates": parts}
+    )
 
 
 class Systems:
-    """The systems by their URIs. `more`: numbers of EPSG beside the usual ones. Without GDAL there are longitude and latitude and Web Mercator alone."""
+    """The systems by their URIs. `more`: numbers of EPSG beside the usual ones. Without GDAL there are longitude and
+    latitude and Web Mercator alone."""
 
     def __init__(self, more: Iterable[int] = ()) -> None:
         self.codes = list(dict.fromkeys([*USUAL, *more])) if has("osgeo") else [MERCATOR]

@@ -1,8 +1,8 @@
 """Saves: changes that are made whole or not at all, though they may take several edits. Needs no package.
 
-What is to be sent is noted before it is sent. If an edit isn't made, those before it are undone, the newest first, by checked edits: what others
-have changed just then stays, and is named. If the gateway or the server ends meanwhile, this is done once both are there again.
-"""
+What is to be sent is noted before it is sent. If an edit isn't made, those before it are undone, the newest first, by
+checked edits: what others have changed just then stays, and is named. If the gateway or the server ends meanwhile, this
+is done once both are there again. """
 from __future__ import annotations
 
 import json
@@ -35,7 +35,8 @@ class Made:
 
 
 class Saves:
-    """Makes saves on a live map, and keeps a log of them. `trail`: the path of the file with who has saved what, or None."""
+    """Makes saves on a live map, and keeps a log of them. `trail`: the path of the file with who has saved what, or
+    None."""
 
     def __init__(self, live: LiveMap, log: SaveLog, trail: str | None = None) -> None:
         self.live, self.log, self.client, self.trail = live, log, live.client, trail
@@ -43,7 +44,8 @@ class Saves:
     # ---- sending
 
     def make(self, changes: Iterable[Change], new_ids: set[int], person: str) -> Made:
-        """Makes changes. Raises `Refused` if they aren't made, and `Taken` if ids that are to be new aren't. What came of it is finished by `finish`."""
+        """Makes changes. Raises `Refused` if they aren't made, and `Taken` if ids that are to be new aren't. What came
+        of it is finished by `finish`."""
         groups = list(batches(step for change in changes for step in steps(change)))
         self.see_room(groups)
         try:
@@ -61,7 +63,10 @@ class Saves:
         journal = self.client.known()["journal"]
         need, free = sum(map(sectors, groups)), journal["places"] - journal["used"]
         if need > free and not self.client.publishes:
-            raise Refused(f"nothing of this was saved: it needs {need:,} sectors of the journal, which has {free:,}: publish, then save again")
+            raise Refused(
+                f"nothing of this was saved: it needs {need:,} sectors of the journal, which has {free:,}: publish, "
+                "then save again"
+            )
 
     def try_edit(self, group: list[Change], made: Made, new_ids: set[int]) -> tuple[str | None, set[int]]:
         """Makes changes by one edit. Returns why it isn't made, or None, and the new ids that somebody else has."""
@@ -113,7 +118,9 @@ class Saves:
         try:
             left = self.undo(number)
         except (NoAnswer, Stopped, Unwritable):
-            raise Refused(f"nothing of this is saved, and what was sent before is undone as soon as it can be: {why}") from None
+            raise Refused(
+                f"nothing of this is saved, and what was sent before is undone as soon as it can be: {why}"
+            ) from None
         if taken and not left:
             raise Taken(taken)
         but = f", but for {left}, which others have changed just then" if left else ""
@@ -128,7 +135,8 @@ class Saves:
             self.live.tell(f"a save of {count:,} features was cut short, and is undone{but}")
 
     def undo(self, number: int) -> str:
-        """Undoes what was made of a save. Returns the features that others have changed since, so that they stay, as a text."""
+        """Undoes what was made of a save. Returns the features that others have changed since, so that they stay, as a
+        text."""
         self.live.look()
         groups, sent = self.log.begun[number], self.log.sent[number]
         made = [group for at, group in enumerate(groups) if at < sent or self.is_made(group)]
@@ -141,7 +149,9 @@ class Saves:
 
     def is_made(self, group: list[Change]) -> bool:
         """Whether a group is made of which that isn't known: something of it is on the map that wasn't before."""
-        return any(encoded(self.live.now.get(change.number)) == (change.body or NOTHING) != change.was for change in group)
+        return any(
+            encoded(self.live.now.get(change.number)) == (change.body or NOTHING) != change.was for change in group
+        )
 
     def name(self, number: int) -> str:
         """A feature of the map as people know it."""
@@ -150,7 +160,8 @@ class Saves:
 
 
 def steps(change: Change) -> list[Change]:
-    """A change, or two if it is too large for a request beside what its author saw: the feature is deleted, then put as a new one."""
+    """A change, or two if it is too large for a request beside what its author saw: the feature is deleted, then put as
+    a new one."""
     if fits(change) or change.body is None or change.was == NOTHING:
         return [change]
     return [delete(change.number)._replace(was=change.was), change._replace(was=NOTHING)]

@@ -1,9 +1,8 @@
 """Which version of each feature a GIS has. Needs no package.
 
-The id of a feature names its version (`place.points.352.9f..`), and a GIS sends it back when it saves. Only two things have to be known beside it: a
-GIS keeps the id of a feature that it has saved, though the feature has another version since; and while it is panned it gets no second version of a
-feature, since it would show both.
-"""
+The id of a feature names its version (`place.points.352.9f..`), and a GIS sends it back when it saves. Only two things
+have to be known beside it: a GIS keeps the id of a feature that it has saved, though the feature has another version
+since; and while it is panned it gets no second version of a feature, since it would show both. """
 from __future__ import annotations
 
 import math
@@ -18,12 +17,13 @@ from ..geometry.world import WORLD
 from .actions import number_and_version
 from .tables import DIGITS, Kept, Table, View, is_within, signed
 
-# Seconds without a request after which a session that has only read is dropped, and the boxes of one that has saved; and after which that one is.
+# Seconds without a request after which a session that has only read is dropped, and the boxes of one that has saved;
+# and after which that one is.
 IDLE, FORGOTTEN = 12 * 3600, 30 * 24 * 3600
 # Seconds within which a GIS says again what it was asked about.
 ASKED = 600
-# The most sessions, the most features in the boxes of all of them, and the most boxes of a table in one. Of those beyond, the ones go first that were
-# used least recently, and of sessions those that have saved nothing.
+# The most sessions, the most features in the boxes of all of them, and the most boxes of a table in one. Of those
+# beyond, the ones go first that were used least recently, and of sessions those that have saved nothing.
 MOST_SESSIONS, MOST_SHOWN, MOST_BOXES = 10_000, 5_000_000, 1000
 # The same features of a map that isn't held: some 600 bytes each.
 MOST_FAR = 60_000
@@ -42,11 +42,13 @@ class Session:
 
     def __init__(self) -> None:
         self.used = time.time()
-        # What it has saved: the number and the version that an id has become; all ids of each of these, and the last one.
+        # What it has saved: the number and the version that an id has become; all ids of each of these, and the last
+        # one.
         self.has: dict[str, tuple[int, str]] = {}
         self.ids = defaultdict[Tuple[int, str], set[str]](set)
         self.fids: dict[tuple[int, str], str] = {}
-        # Versions of conflicts that it was told (None: deleted), the ids under which it got these features since, and those that are as it was told.
+        # Versions of conflicts that it was told (None: deleted), the ids under which it got these features since, and
+        # those that are as it was told.
         self.told: dict[int, str | None] = {}
         self.given: dict[int, str] = {}
         self.seen: set[tuple[int, str | None]] = set()
@@ -93,7 +95,8 @@ class Session:
         self.fids[number, version] = fid
 
     def saved(self, fid: str, table: Table, number: int, before: str | None, version: str) -> list[Note]:
-        """What is to be noted once a feature is saved: each id under which the GIS has the version before stands for the new one."""
+        """What is to be noted once a feature is saved: each id under which the GIS has the version before stands for
+        the new one."""
         ids = sorted(self.ids[number, before]) if before else []
         if before and f"{table.name}.{number}.{before}" not in self.has:
             ids.append(f"{table.name}.{number}.{before}")
@@ -121,11 +124,16 @@ class Session:
                 self.seen.add((number, version))
 
     def pinned(
-        self, table: Table, box: Box | None, views: Iterable[View], pack: Callable[[View], Kept] = kept, most: float = math.inf
+        self,
+        table: Table,
+        box: Box | None,
+        views: Iterable[View],
+        pack: Callable[[View], Kept] = kept,
+        most: float = math.inf,
     ) -> Iterator[View]:
-        """The features of a box, each as the GIS has it already. A box inside of one before is asked for when the layer is loaded anew (F5): a GIS
-        that is panned asks for none of those. `pack`: what is kept of a feature. Of a table of which it would show more than `most` features none is
-        kept."""
+        """The features of a box, each as the GIS has it already. A box inside of one before is asked for when the layer
+        is loaded anew (F5): a GIS that is panned asks for none of those. `pack`: what is kept of a feature. Of a table
+        of which it would show more than `most` features none is kept."""
         if box is None and table.name not in self.boxes:
             yield from views
             return

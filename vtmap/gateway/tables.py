@@ -1,4 +1,5 @@
-"""The features of the map as a GIS sees them: a table for each kind of shapes that a layer has, with a column for each tag. Needs no package."""
+"""The features of the map as a GIS sees them: a table for each kind of shapes that a layer has, with a column for each
+tag. Needs no package."""
 from __future__ import annotations
 
 import hashlib
@@ -24,7 +25,8 @@ Key = Tuple[str, str]
 # Columns that aren't tags.
 SHAPE, ID = "geom", "feature_id"
 OWN = (SHAPE, ID, *ZOOMS)
-# The digits of a version, and the bytes of its signature. A feature of a table that has none yet is shown at these zooms.
+# The digits of a version, and the bytes of its signature. A feature of a table that has none yet is shown at these
+# zooms.
 DIGITS, SIGNATURE, NEW_ZOOMS = 16, 4, (0, 14)
 
 
@@ -73,8 +75,9 @@ class Kept(Protocol):
 
 
 class Table:
-    """The features of one kind of one layer. `columns`: the tag and the type of each, by its name. `further`: types of tags that a feature may get.
-    `past`: what it had, if it has no feature any more. `rules`: the layer as the schema has it, or None."""
+    """The features of one kind of one layer. `columns`: the tag and the type of each, by its name. `further`: types of
+    tags that a feature may get. `past`: what it had, if it has no feature any more. `rules`: the layer as the schema
+    has it, or None."""
 
     def __init__(
         self,
@@ -92,8 +95,19 @@ class Table:
         for view in self.held:
             for tag, value in view.feature["tags"].items():
                 values[tag].append(value)
-        self.columns = named_columns({**past.forms, **(rules.forms() if rules else {}), **further, **{tag: form_of(values[tag]) for tag in values}})
-        self.is_several = self.kind != "points" or past.is_several or any(len(view.feature["geometry"][self.kind]) > 1 for view in self.held)
+        self.columns = named_columns(
+            {
+                **past.forms,
+                **(rules.forms() if rules else {}),
+                **further,
+                **{tag: form_of(values[tag]) for tag in values},
+            }
+        )
+        self.is_several = (
+            self.kind != "points"
+            or past.is_several
+            or any(len(view.feature["geometry"][self.kind]) > 1 for view in self.held)
+        )
         zooms = Counter(tuple(view.feature[zoom] for zoom in ZOOMS) for view in self.held)
         shown_at = zooms.most_common(1)[0][0] if zooms else past.zooms
         self.zooms: tuple[int, ...] = rules.zooms if rules and rules.zooms else shown_at
@@ -134,8 +148,8 @@ class Table:
 
 
 class FarTable(Table):
-    """A table of a map that isn't held: its features are read as they are asked for. `live`: a `FarMap`. `summary`: what is known of them, None if it
-    has none."""
+    """A table of a map that isn't held: its features are read as they are asked for. `live`: a `FarMap`. `summary`:
+    what is known of them, None if it has none."""
 
     def __init__(
         self,
@@ -197,11 +211,14 @@ def signed(digits: str) -> str:
 
 def version_of(pieces: Mapping[int, Feature]) -> str:
     """The version of a feature that is these features of the map, by their ids."""
-    return signed(hashlib.sha256(encoded({str(number): feature for number, feature in pieces.items()})).hexdigest()[:DIGITS])
+    return signed(
+        hashlib.sha256(encoded({str(number): feature for number, feature in pieces.items()})).hexdigest()[:DIGITS]
+    )
 
 
 def table_name(layer: str, kind: str) -> str:
-    """The name of a table. It always has the kind, so a project still finds its layer once the map's layer has a second kind."""
+    """The name of a table. It always has the kind, so a project still finds its layer once the map's layer has a second
+    kind."""
     return f"{xml_name(layer)}.{KINDS[kind]}"
 
 

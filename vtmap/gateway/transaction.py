@@ -1,4 +1,5 @@
-"""What a GIS saves by one Transaction of WFS: compared with the map of now, then made whole or not at all. Needs no package."""
+"""What a GIS saves by one Transaction of WFS: compared with the map of now, then made whole or not at all. Needs no
+package."""
 from __future__ import annotations
 
 from collections import Counter, defaultdict
@@ -36,7 +37,9 @@ class Conflict(Refused):
     """Why nothing is saved: others have changed features of it."""
 
     def __init__(self, features: list[str]) -> None:
-        super().__init__(f"nothing of this was saved, since others have changed features meanwhile: {'; '.join(features)}. {ADVICE}")
+        super().__init__(
+            f"nothing of this was saved, since others have changed features meanwhile: {'; '.join(features)}. {ADVICE}"
+        )
         self.features = features
 
 
@@ -45,14 +48,16 @@ class Doubted(Refused):
 
 
 class Transaction:
-    """What a GIS saves at once. `live` is as the map is now. `again`: the ids that its new features got, if the GIS has sent it before. Those that the
-    map has as they were added aren't made again."""
+    """What a GIS saves at once. `live` is as the map is now. `again`: the ids that its new features got, if the GIS has
+    sent it before. Those that the map has as they were added aren't made again."""
 
     def __init__(self, live: LiveMap, session: Session, actions: Iterable[Action], again: Sequence[str] = ()) -> None:
         self.live, self.session, self.tables = live, session, live.tables()
         self.again, asked = again, list(actions)
         # The features that it names. A new one gets none of their ids, also where the map has no such feature any more.
-        self.named = {found[0] for action in asked for fid in action.fids for found in [session.found(fid)] if found is not None}
+        self.named = {
+            found[0] for action in asked for fid in action.fids for found in [session.found(fid)] if found is not None
+        }
         # Its new features in their order: the id of one that isn't made again, or the wish.
         self.new: list[str | Wish] = []
         # What it makes of each feature, by the ids, and the versions that these had.
@@ -105,8 +110,8 @@ class Transaction:
         return first
 
     def wish(self, fid: str, table: Table, action: Action) -> Wish | None:
-        """The wish for a feature that the GIS has; None if others have changed it, or if it is to be deleted and is gone. If the GIS was told that, and
-        has got the feature as it is now, what is saved is put over it."""
+        """The wish for a feature that the GIS has; None if others have changed it, or if it is to be deleted and is
+        gone. If the GIS was told that, and has got the feature as it is now, what is saved is put over it."""
         number, version = self.session.held(fid)
         if number in self.wishes:
             return self.wishes[number]
@@ -118,7 +123,11 @@ class Transaction:
         is_made = before and view and action.name == "Update" and changed(before, action, table, number) == view.feature
         # What is put over others' edits has an id that was given: whoever makes one up hasn't seen anything.
         is_known = fid in self.session.has or is_given(fid)
-        if now != version and not is_made and not (is_known and (number, now) in self.session.seen and (view or before)):
+        if (
+            now != version
+            and not is_made
+            and not (is_known and (number, now) in self.session.seen and (view or before))
+        ):
             self.tell(table, number, view, before, is_known)
             return None
         if view and view.key != (table.layer, table.kind):
@@ -129,7 +138,9 @@ class Transaction:
 
     def tell(self, table: Table, number: int, view: View | None, before: Feature | None, is_known: bool) -> None:
         """Tells a conflict."""
-        now = f"now {told_change(before, view.feature if view else None)}" if before else "changed" if view else "deleted"
+        now = (
+            f"now {told_change(before, view.feature if view else None)}" if before else "changed" if view else "deleted"
+        )
         text = f"{shown(table.layer)} {number} ({now}{'' if is_known else NOT_GIVEN})"
         if text not in self.conflicts:
             self.conflicts.append(text)
@@ -139,14 +150,18 @@ class Transaction:
     # ---- what may be a mistake
 
     def see_deletions(self, has_name: bool) -> None:
-        """Refuses to delete most of a table, until the GIS saves the same again. `has_name`: whether the session is known by then."""
+        """Refuses to delete most of a table, until the GIS saves the same again. `has_name`: whether the session is
+        known by then."""
         gone = defaultdict(set)
         for wish in self.wishes.values():
             if wish.feature is None:
                 gone[wish.table].add(wish.number)
         many = {table: numbers for table, numbers in gone.items() if are_many(len(numbers), table.count)}
         if many and not self.session.says_again(frozenset().union(*many.values())):
-            told = ", ".join(f"{len(numbers):,} of the {table.count:,} features of {shown(table.title)}" for table, numbers in many.items())
+            told = ", ".join(
+                f"{len(numbers):,} of the {table.count:,} features of {shown(table.title)}"
+                for table, numbers in many.items()
+            )
             raise Doubted(f"nothing of this was saved: it deletes {told}. {MEANT if has_name else MEANT_ALONE}")
 
     # ---- making it
@@ -160,7 +175,9 @@ class Transaction:
                 return saves.make(changes, new_ids, person)
             except Taken as taken:
                 self.renumber(max(number % PIECE for number in taken.ids))
-        raise Refused("nothing of this was saved: others have taken the ids of new features again and again: save again")
+        raise Refused(
+            "nothing of this was saved: others have taken the ids of new features again and again: save again"
+        )
 
     def renumber(self, greatest: int) -> None:
         """Gives new features ids above one that somebody else has just taken."""

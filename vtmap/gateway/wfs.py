@@ -23,11 +23,32 @@ from .saves import Saves
 from .sessions import Session, Sessions
 from .tables import FarTable, Table, View, meets
 from .transaction import AGAIN, Conflict, Doubted, Transaction, is_there
-from .wfs_requests import (BY_ID, BY_ID_NAMES, CAPABILITIES, DESCRIBED, FEATURES, LISTED, READS, SCHEMA, VALUES, Given, Invalid, columns_in,
-                           given_in, in_order, invalid, name_in, request_of, see_column, see_format, version_of)
+from .wfs_requests import (
+    BY_ID,
+    BY_ID_NAMES,
+    CAPABILITIES,
+    DESCRIBED,
+    FEATURES,
+    LISTED,
+    READS,
+    SCHEMA,
+    VALUES,
+    Given,
+    Invalid,
+    columns_in,
+    given_in,
+    in_order,
+    invalid,
+    name_in,
+    request_of,
+    see_column,
+    see_format,
+    version_of,
+)
 from .wfs_texts import V2, Found, Version
 
-# The most elements of a filter, beside ids; the bytes of the name of a session; and an id of a feature without its version.
+# The most elements of a filter, beside ids; the bytes of the name of a session; and an id of a feature without its
+# version.
 MOST_PARTS, NAME_BYTES = 5000, 5
 WITHOUT_VERSION = re.compile(r"(?:v:)?([^\s<>&]+)\.([0-9]{1,19})")
 
@@ -43,7 +64,8 @@ class Wfs:
         self.live, self.sessions, self.saves, self.turn = live, sessions, saves, threading.Lock()
 
     def look(self, is_saving: bool = False) -> None:
-        """Takes what others have changed, and undoes what was cut short. Where that can't be undone yet, the map is read, and nothing is saved."""
+        """Takes what others have changed, and undoes what was cut short. Where that can't be undone yet, the map is
+        read, and nothing is saved."""
         if self.saves.log.begun:
             try:
                 self.saves.recover()
@@ -55,8 +77,8 @@ class Wfs:
     # ---- reading
 
     def answer(self, name: str, given: Given, address: str, queries: Sequence[Given] = ()) -> str | Spooled:
-        """The reply to a request with these parameters, by names in small letters. `name`: that of the session, empty for none. `queries`: the parameters
-        of each query of a request by XML; another one is a query itself."""
+        """The reply to a request with these parameters, by names in small letters. `name`: that of the session, empty
+        for none. `queries`: the parameters of each query of a request by XML; another one is a query itself."""
         version = version_of(given)
         request = request_of(given, version)
         with self.live.lock:
@@ -64,8 +86,11 @@ class Wfs:
             tables = self.live.tables()
         # Tables and views stay as they are: others go on while features are chosen and written.
         if request == CAPABILITIES:
-            # Two layers of a GIS have the same id with different contents, so each has an address of its own: QGIS uses this one.
-            return wfs_texts.capabilities(version, tables.values(), f"{address}/{name or secrets.token_hex(NAME_BYTES)}")
+            # Two layers of a GIS have the same id with different contents, so each has an address of its own: QGIS uses
+            # this one.
+            return wfs_texts.capabilities(
+                version, tables.values(), f"{address}/{name or secrets.token_hex(NAME_BYTES)}"
+            )
         if request in (LISTED, DESCRIBED):
             return stored(request, given, tables.values())
         see_format(given.get("outputformat"), version)
@@ -86,21 +111,31 @@ class Wfs:
         return wfs_texts.features(version, found, fids, matched, wanted)
 
     def chosen(self, name: str, query: Given, tables: Mapping[str, Table]) -> Chosen:
-        """The views of each table that a query asks for, in their order; whether it names nothing but a box, and that box."""
+        """The views of each table that a query asks for, in their order; whether it names nothing but a box, and that
+        box."""
         see_system(query.get("srsname"))
         made, is_plain = chosen_in(self.sessions.get(name), query, named_tables(query, tables))
-        return [(table, in_order(views, query.get("sortby"), table)) for table, views in made], is_plain, box_of(query.get("bbox"))
+        return (
+            [(table, in_order(views, query.get("sortby"), table)) for table, views in made],
+            is_plain,
+            box_of(query.get("bbox")),
+        )
 
     def found(self, name: str, given: Given, chosen: Iterable[Chosen]) -> tuple[list[Found], list[str], int]:
-        """The features that queries ask for, as pairs of table and view, with their ids, and how many there are with those that aren't returned."""
+        """The features that queries ask for, as pairs of table and view, with their ids, and how many there are with
+        those that aren't returned."""
         if is_counted(given):
             return [], [], sum(1 for tables, _, _ in chosen for _, views in tables for _ in views)
         with self.live.lock:
             session = self.sessions.get(name)
-            found = [(table, view) for tables, is_plain, box in chosen for table, views in tables
-                     for view in (session.pinned(table, box, views) if is_plain else views)]
+            found = [
+                (table, view)
+                for tables, is_plain, box in chosen
+                for table, views in tables
+                for view in (session.pinned(table, box, views) if is_plain else views)
+            ]
             matched, first = len(found), number_in(given, ("startindex",), 0)
-            found = found[first:first + number_in(given, ("count", "maxfeatures"), matched)]
+            found = found[first : first + number_in(given, ("count", "maxfeatures"), matched)]
             return found, self.give(name, session, found), matched
 
     def give(self, name: str, session: Session, found: Iterable[Found]) -> list[str]:
@@ -142,8 +177,8 @@ class Wfs:
     # ---- saving
 
     def posted(self, name: str, body: bytes, address: str, person: str, is_meant: bool = False) -> str | Spooled:
-        """The reply to a request by XML. `person`: who sends it, a name or an address. `is_meant`: whatever it deletes, it isn't asked whether that is
-        meant."""
+        """The reply to a request by XML. `person`: who sends it, a name or an address. `is_meant`: whatever it deletes,
+        it isn't asked whether that is meant."""
         # One at a time: what is parsed may be several times as large as the body.
         with self.turn:
             root = parsed(body)
@@ -162,7 +197,8 @@ class Wfs:
         with self.live.lock:
             self.look(is_saving=True)
             session, mark = self.sessions.get(name), hashlib.sha256(body).hexdigest()
-            # If the reply to it was lost, the GIS sends the same again: its new features are made once, as long as they are on the map.
+            # If the reply to it was lost, the GIS sends the same again: its new features are made once, as long as they
+            # are on the map.
             again = session.added if session.mark == mark else []
             counts: Mapping[str, int] = {"Insert": len(again), "Update": 0, "Delete": 0}
             added = again
@@ -173,10 +209,15 @@ class Wfs:
             return wfs_texts.transacted(root.get("version", wfs_texts.V1.name), counts, added)
 
     def save(
-        self, named: tuple[str, Session], actions: Iterable[Action], again: Sequence[str], mark: str, said: tuple[str, bool]
+        self,
+        named: tuple[str, Session],
+        actions: Iterable[Action],
+        again: Sequence[str],
+        mark: str,
+        said: tuple[str, bool],
     ) -> tuple[Mapping[str, int], list[str]]:
-        """Makes a Transaction. `named`: the session, and its name before it. `said`: by whom it is, and whether what it deletes is meant. Returns its
-        counts and the ids of new features."""
+        """Makes a Transaction. `named`: the session, and its name before it. `said`: by whom it is, and whether what it
+        deletes is meant. Returns its counts and the ids of new features."""
         (name, session), (person, is_meant) = named, said
         try:
             task = Transaction(self.live, session, actions, again)
@@ -209,8 +250,9 @@ def is_counted(given: Given) -> bool:
 
 
 def chosen_in(session: Session, given: Given, tables: Iterable[Table]) -> tuple[Views, bool]:
-    """The views of each table that a request asks for, and whether it names nothing but a box. Where the map isn't held, they are read as they are
-    needed, those of ids one by one, and those in a box that a filter asks for by that box."""
+    """The views of each table that a request asks for, and whether it names nothing but a box. Where the map isn't
+    held, they are read as they are needed, those of ids one by one, and those in a box that a filter asks for by that
+    box."""
     box, fids = box_of(given.get("bbox")), given.get("featureid", given.get("resourceid"))
     wanted = {session.held(fid)[0] for fid in fids.split(",")} if fids else None
     asked = filter_in(given.get("filter"))
@@ -220,11 +262,22 @@ def chosen_in(session: Session, given: Given, tables: Iterable[Table]) -> tuple[
             made.append((table, far_views(session, table, box, wanted, asked)))
             continue
         test = test_of(asked, table, session) if asked is not None else None
-        made.append((table, [view for view in table.meeting(box) if (wanted is None or view.number in wanted) and (test is None or test(view))]))
+        made.append(
+            (
+                table,
+                [
+                    view
+                    for view in table.meeting(box)
+                    if (wanted is None or view.number in wanted) and (test is None or test(view))
+                ],
+            )
+        )
     return made, wanted is None and asked is None
 
 
-def far_views(session: Session, table: FarTable, box: Box | None, wanted: set[int] | None, asked: Element | None) -> Far:
+def far_views(
+    session: Session, table: FarTable, box: Box | None, wanted: set[int] | None, asked: Element | None
+) -> Far:
     """The views of a table of a map that isn't held that a request asks for."""
     test = test_of(asked, table, session) if asked is not None else None
     inner = box_within(asked) if asked is not None else None
@@ -234,7 +287,9 @@ def far_views(session: Session, table: FarTable, box: Box | None, wanted: set[in
     def read() -> Iterator[View]:
         if numbers is not None:
             found = (table.live.views.get(number) for number in sorted(numbers))
-            views: Iterable[View] = (view for view in found if view is not None and view.key == (table.layer, table.kind))
+            views: Iterable[View] = (
+                view for view in found if view is not None and view.key == (table.layer, table.kind)
+            )
         else:
             views = table.meeting(inner if box is None else box)
         for view in views:
@@ -245,7 +300,8 @@ def far_views(session: Session, table: FarTable, box: Box | None, wanted: set[in
 
 
 class Far:
-    """Views that are read each time that they are gone through. `count`: how many they are, None if that isn't known before."""
+    """Views that are read each time that they are gone through. `count`: how many they are, None if that isn't known
+    before."""
 
     def __init__(self, table: FarTable, read: Callable[[], Iterator[View]], count: int | None) -> None:
         self.table, self.read, self.count = table, read, count
@@ -255,7 +311,8 @@ class Far:
 
 
 def filter_in(said: str | Element | None) -> Element | None:
-    """The element of a filter, of which a parameter has the text; None if there is none. Each feature is tried by each part of it."""
+    """The element of a filter, of which a parameter has the text; None if there is none. Each feature is tried by each
+    part of it."""
     found = (parsed(said.encode()) if said else None) if isinstance(said, str) else said
     if found is not None and sum(local(part) not in OF_IDS for part in found.iter()) > MOST_PARTS:
         raise invalid("filter", f"a filter has at most {MOST_PARTS:,} parts beside ids of features")
@@ -264,7 +321,12 @@ def filter_in(said: str | Element | None) -> Element | None:
 
 def told(counts: Mapping[str, int]) -> str:
     """The counts of a Transaction as a text."""
-    made = (counts["Insert"] - counts[AGAIN], "new"), (counts[AGAIN], "sent again"), (counts["Update"], "changed"), (counts["Delete"], "deleted")
+    made = (
+        (counts["Insert"] - counts[AGAIN], "new"),
+        (counts[AGAIN], "sent again"),
+        (counts["Update"], "changed"),
+        (counts["Delete"], "deleted"),
+    )
     return ", ".join(f"{count:,} {said}" for count, said in made if count) or "nothing"
 
 
@@ -307,7 +369,11 @@ def value_in(name: str | None, tables: Iterable[Table]) -> str:
 
 def named_tables(given: Given, tables: Mapping[str, Table]) -> list[Table]:
     """The tables that a request names; all if it names none."""
-    names = list(dict.fromkeys(type_in(one) for one in re.split("[,()]", given.get("typenames", given.get("typename", ""))) if one.strip()))
+    names = list(
+        dict.fromkeys(
+            type_in(one) for one in re.split("[,()]", given.get("typenames", given.get("typename", ""))) if one.strip()
+        )
+    )
     wrong = [name for name in names if name not in tables]
     if wrong:
         raise invalid("typeNames", f"the map has no layer {wrong[0]}")

@@ -23,8 +23,16 @@ READS, OF_V2 = (CAPABILITIES, SCHEMA, FEATURES, VALUES, LISTED, DESCRIBED), (VAL
 BY_ID = "urn:ogc:def:query:OGC-WFS::GetFeatureById"
 BY_ID_NAMES = (BY_ID, "http://www.opengis.net/def/query/OGC-WFS/0/GetFeatureById")
 # Formats by the versions, without blanks and plus signs, which a query turns into blanks.
-FORMATS = {V2: ("application/gmlxml;version=3.2", "text/xml;subtype=gml/3.2", "text/xml;subtype=gml/3.2.1", "text/xml", "gml32"),
-           V1: ("text/xml;subtype=gml/3.1.1", "text/xml", "gml3", "gml31", "xmlschema")}
+FORMATS = {
+    V2: (
+        "application/gmlxml;version=3.2",
+        "text/xml;subtype=gml/3.2",
+        "text/xml;subtype=gml/3.2.1",
+        "text/xml",
+        "gml32",
+    ),
+    V1: ("text/xml;subtype=gml/3.1.1", "text/xml", "gml3", "gml31", "xmlschema"),
+}
 # The parameters of a request, or of a query of it: texts, and the filter of XML.
 Given = Dict[str, Any]
 # The most queries of a request, and the most properties by which features are sorted.
@@ -33,8 +41,16 @@ MOST_QUERIES, MOST_SORTS = 50, 10
 MOST_SORTED = 10_000
 DOWN = {"A": False, "ASC": False, "D": True, "DESC": True}
 # The attributes of a request by XML, and of a query in it, by the names of parameters.
-OF_REQUEST = {"version": "version", "service": "service", "outputFormat": "outputformat", "count": "count", "maxFeatures": "maxfeatures",
-              "startIndex": "startindex", "resultType": "resulttype", "valueReference": "valuereference"}
+OF_REQUEST = {
+    "version": "version",
+    "service": "service",
+    "outputFormat": "outputformat",
+    "count": "count",
+    "maxFeatures": "maxfeatures",
+    "startIndex": "startindex",
+    "resultType": "resulttype",
+    "valueReference": "valuereference",
+}
 OF_QUERY = {"typeName": "typename", "typeNames": "typenames", "srsName": "srsname"}
 
 
@@ -53,6 +69,7 @@ def invalid(locator: str, text: str) -> Invalid:
 
 # ---- versions
 
+
 def numbers_of(version: str) -> list[int]:
     """The parts of a version's number."""
     if not re.fullmatch(r"[0-9]{1,3}(\.[0-9]{1,3}){0,2}", version):
@@ -61,8 +78,8 @@ def numbers_of(version: str) -> list[int]:
 
 
 def version_of(given: Given) -> Version:
-    """The version of a reply. A client that asks what there is may name several that it takes, the first one first; as in WFS 1 one alone stands for
-    the greatest one that isn't above it."""
+    """The version of a reply. A client that asks what there is may name several that it takes, the first one first; as
+    in WFS 1 one alone stands for the greatest one that isn't above it."""
     request, asked, taken = given.get("request", "").lower(), given.get("version"), given.get("acceptversions")
     if request != CAPABILITIES:
         if asked and asked not in VERSIONS:
@@ -71,7 +88,11 @@ def version_of(given: Given) -> Version:
     if taken:
         known = [one.strip() for one in taken.split(",") if one.strip() in VERSIONS]
         if not known:
-            raise Invalid("VersionNegotiationFailed", "AcceptVersions", f"none of the versions {taken} is spoken: {' and '.join(VERSIONS)} are")
+            raise Invalid(
+                "VersionNegotiationFailed",
+                "AcceptVersions",
+                f"none of the versions {taken} is spoken: {' and '.join(VERSIONS)} are",
+            )
         return VERSIONS[known[0]]
     if not asked:
         return V2
@@ -99,12 +120,19 @@ def see_format(text: str | None, version: Version) -> None:
 
 # ---- XML
 
+
 def given_in(root: Element) -> tuple[Given, list[Given]]:
     """The parameters that a request by XML has, and those of each of its queries."""
     given, queries = {"request": local(root), **attributes(root, OF_REQUEST)}, []
     lists = {"AcceptVersions": "acceptversions", "TypeName": "typename", "StoredQueryId": "storedquery_id"}
     for name, to in lists.items():
-        texts = [text for part in root if local(part) == name for text in [part.text, *(child.text for child in part)] if text and text.strip()]
+        texts = [
+            text
+            for part in root
+            if local(part) == name
+            for text in [part.text, *(child.text for child in part)]
+            if text and text.strip()
+        ]
         if texts:
             given[to] = ",".join(texts)
     for part in root:
@@ -145,10 +173,14 @@ def sorted_by(element: Element) -> str:
 
 def stored_in(element: Element) -> Given:
     """The parameters of a stored query."""
-    return {"storedquery_id": element.get("id", ""), **{child.get("name", "").lower(): child.text or "" for child in element}}
+    return {
+        "storedquery_id": element.get("id", ""),
+        **{child.get("name", "").lower(): child.text or "" for child in element},
+    }
 
 
 # ---- columns
+
 
 def name_in(text: str) -> str:
     """The name of a column that a text says."""
@@ -156,7 +188,8 @@ def name_in(text: str) -> str:
 
 
 def columns_in(text: str | None, tables: Collection[Table]) -> dict[str, frozenset[str] | None]:
-    """The columns that are asked for of each table, by its name: None for all. Of several tables each may have a list of its own, in parentheses."""
+    """The columns that are asked for of each table, by its name: None for all. Of several tables each may have a list
+    of its own, in parentheses."""
     lists = re.findall(r"\(([^()]*)\)", text) if text and text.startswith("(") else [text or ""]
     if len(lists) not in (1, len(tables)):
         raise invalid("propertyName", f"PROPERTYNAME has {len(lists)} lists for {len(tables)} layers")
@@ -180,13 +213,17 @@ def see_column(name: str, table: Table, locator: str) -> None:
 
 
 def in_order(views: Iterable[View], text: str | None, table: Table) -> Iterable[View]:
-    """Views of a table, sorted as the parameter SORTBY says: what has no value comes last. Equal ones stay in the order of their ids."""
+    """Views of a table, sorted as the parameter SORTBY says: what has no value comes last. Equal ones stay in the order
+    of their ids."""
     parts = [part.split() for part in re.split(r"[,()]", text or "") if part.strip()]
     if parts and not isinstance(views, list):
         # Of a map that isn't held.
         views = list(itertools.islice(views, MOST_SORTED + 1))
         if len(views) > MOST_SORTED:
-            raise invalid("sortBy", f"SORTBY of over {MOST_SORTED:,} features isn't taken of a map of this size: name a box, or a filter")
+            raise invalid(
+                "sortBy",
+                f"SORTBY of over {MOST_SORTED:,} features isn't taken of a map of this size: name a box, or a filter",
+            )
     if len(parts) > MOST_SORTS:
         raise invalid("sortBy", f"SORTBY has at most {MOST_SORTS} properties")
     for part in reversed(parts):
@@ -195,6 +232,10 @@ def in_order(views: Iterable[View], text: str | None, table: Table) -> Iterable[
         if name == SHAPE or order not in DOWN or len(part) > 2:
             raise invalid("sortBy", f"SORTBY {' '.join(part)} isn't taken: a property and ASC or DESC are")
         cells: dict[int, Any] = {view.number: table.cell(view, name) for view in views}
-        there = sorted((view for view in views if cells[view.number] is not None), key=lambda view: cells[view.number], reverse=DOWN[order])
+        there = sorted(
+            (view for view in views if cells[view.number] is not None),
+            key=lambda view: cells[view.number],
+            reverse=DOWN[order],
+        )
         views = there + [view for view in views if cells[view.number] is None]
     return views

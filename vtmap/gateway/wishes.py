@@ -21,7 +21,8 @@ TRUE, FALSE = ("true", "1", "t"), ("false", "0", "f")
 
 
 class Wish:
-    """A feature as a Transaction wants it (None: deleted), and the whole of the map that it is made of, if it isn't new. `pieces_of` reads it."""
+    """A feature as a Transaction wants it (None: deleted), and the whole of the map that it is made of, if it isn't
+    new. `pieces_of` reads it."""
 
     def __init__(self, table: Table, fid: str | None, number: int, base: Whole | None, feature: Feature | None) -> None:
         self.table, self.fid, self.number, self.base, self.feature = table, fid, number, base, feature
@@ -111,6 +112,7 @@ def fault_by_schema(table: Table, before: Tags | None, after: Tags) -> str | Non
 
 # ---- what the server wouldn't take: it says so too, but not of which feature
 
+
 def fault_of(feature: Feature) -> str | None:
     """Why the server wouldn't take a feature, or None."""
     tags = feature["tags"]
@@ -126,12 +128,12 @@ def fault_of(feature: Feature) -> str | None:
 
 def is_value(value: Value) -> bool:
     """Whether the server takes a value of a tag."""
-    return len(value.encode()) <= MOST_TAG if isinstance(value, str) else -2 ** 63 <= value < 2 ** 64
+    return len(value.encode()) <= MOST_TAG if isinstance(value, str) else -(2**63) <= value < 2**64
 
 
 def fault_of_piece(feature: Feature) -> str | None:
     """Why the server wouldn't take a feature that nothing cuts further, or None."""
-    (kind, lists), = feature["geometry"].items()
+    ((kind, lists),) = feature["geometry"].items()
     if text_bytes(feature) > MOST_TEXT:
         return f"{WORDS['E8 Long'].why}: {WORDS['E8 Long'].then}"
     if reach(bounds((kind, lists)), range(feature["minzoom"], feature["maxzoom"] + 1)) > MOST_REACH:

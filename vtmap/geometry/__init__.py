@@ -1,1 +1,2 @@
-"""Points, shapes and features: coordinates of the map and of the earth, sizes, cuts, and cut features put together again."""
+"""Points, shapes and features: coordinates of the map and of the earth, sizes, cuts, and cut features put together
+again."""

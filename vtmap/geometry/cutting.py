@@ -121,7 +121,8 @@ def cut(shape: Shape, axis: int, at: float) -> tuple[Shape | None, Shape | None]
 
 
 def unwrapped(chain: Sequence[Point]) -> list[Point]:
-    """The points of a line or ring that crosses the 180th meridian, without the jump from one edge of the world to the other."""
+    """The points of a line or ring that crosses the 180th meridian, without the jump from one edge of the world to the
+    other."""
     made, turn = [chain[0]], 0
     for (before, _), (x, y) in zip(chain, chain[1:]):
         # An edge along the whole world, as of a polygon of all of it, isn't a jump.
@@ -183,10 +184,9 @@ def moved(shape: Shape, east: float) -> Shape:
 class Cutter:
     """Cuts shapes into pieces that every renderer draws right, and that the server takes.
 
-    The cuts run through the middles of the tiles of a zoom, so a cell between them is in four tiles of that zoom, with coordinates from
-    -2048 to 6144. The zoom is the greatest one, and no piece is cut further than it has to be, or it is the split zoom, and each piece is
-    in one cell.
-    """
+    The cuts run through the middles of the tiles of a zoom, so a cell between them is in four tiles of that zoom, with
+    coordinates from -2048 to 6144. The zoom is the greatest one, and no piece is cut further than it has to be, or it
+    is the split zoom, and each piece is in one cell."""
 
     def __init__(self, zooms: Sequence[int], split_zoom: int | None = None) -> None:
         self.zooms = zooms
@@ -201,7 +201,8 @@ class Cutter:
         return small and tiles <= MOST_REACH and points * tiles <= MOST_WORK
 
     def about(self, shape: Shape, many: int) -> int:
-        """About how many pieces a shape is cut into, if that may be as many as `many`: the cells inside of it, and those that its edges cross."""
+        """About how many pieces a shape is cut into, if that may be as many as `many`: the cells inside of it, and
+        those that its edges cross."""
         if shape[0] == "points":
             return 1
         west, north, east, south = bounds(shape)
@@ -210,7 +211,7 @@ class Cutter:
             return 1
         length = sum(math.dist(one, other) for chain in chains(shape) for one, other in zip(chain, chain[1:]))
         area = sum(abs(twice_area(rings[0])) for rings in shape[1]) / 2 if shape[0] == "polygons" else 0
-        return math.ceil(min(cells, area / self.side ** 2 + length / self.side))
+        return math.ceil(min(cells, area / self.side**2 + length / self.side))
 
     def pieces(self, shape: Shape, text: int, body: int) -> list[Shape]:
         """The pieces of a shape: itself if it needs no cut."""
@@ -242,7 +243,8 @@ class Cutter:
             raise Unfit(f"it would be cut into over {MOST_PIECES:,} pieces: end it at a smaller --maxzoom")
 
     def best_cut(self, shape: Shape) -> tuple[int, int] | None:
-        """The axis and the coordinate of the cut nearest to the middle of a shape, on its longer side; None if it is inside of a cell."""
+        """The axis and the coordinate of the cut nearest to the middle of a shape, on its longer side; None if it is
+        inside of a cell."""
         west, north, east, south = bounds(shape)
         sides = sorted(((east - west, 0, west, east), (south - north, 1, north, south)), reverse=True)
         for _, axis, least, greatest in sides:

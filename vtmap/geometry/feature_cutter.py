@@ -1,4 +1,5 @@
-"""Large features cut into pieces that every renderer draws right. `wholes.py` puts them together again. Needs GDAL's Python module."""
+"""Large features cut into pieces that every renderer draws right. `wholes.py` puts them together again. Needs GDAL's
+Python module."""
 from __future__ import annotations
 
 from collections.abc import Sequence
@@ -12,7 +13,8 @@ from .wholes import OUTLINE, WHOLE
 
 
 class FeatureCutter:
-    """Cuts features that are shown at some zooms. `split_zoom`: into the cells of that zoom. `whole`: the tag with the id of the whole."""
+    """Cuts features that are shown at some zooms. `split_zoom`: into the cells of that zoom. `whole`: the tag with the
+    id of the whole."""
 
     def __init__(
         self,
@@ -32,8 +34,8 @@ class FeatureCutter:
         return self.cutter.about(on_the_world(shape)[0], many)
 
     def features(self, number: int, shape: Shape, tags: Tags, layer: str) -> tuple[list[Feature], bool]:
-        """The features to put for one of this id: itself, or its pieces, then the lines of its outline. Also whether it crosses the 180th
-        meridian, where it is cut in any case. Raises `Unfit`."""
+        """The features to put for one of this id: itself, or its pieces, then the lines of its outline. Also whether it
+        crosses the 180th meridian, where it is cut in any case. Raises `Unfit`."""
         rest: Feature = {"layer": layer, "minzoom": self.zooms[0], "maxzoom": self.zooms[-1]}
         on_world, crosses = on_the_world(shape)
         whole = rounded(on_world)
@@ -48,13 +50,22 @@ class FeatureCutter:
         made = [{**rest, "geometry": dict([piece]), "tags": tags} for piece in pieces]
         if shape[0] == "polygons" and self.outlines:
             rest["layer"] += OUTLINE
-            made += [{**rest, "geometry": dict([piece]), "tags": tags} for piece in self.pieces(on_the_world(outline(shape))[0], tags, layer)]
+            made += [
+                {**rest, "geometry": dict([piece]), "tags": tags}
+                for piece in self.pieces(on_the_world(outline(shape))[0], tags, layer)
+            ]
         return [checked(piece) for piece in made], crosses
 
     def pieces(self, shape: Shape, tags: Tags, layer: str) -> list[Shape]:
         """The pieces of a shape that are shown at the greatest zoom, or all if none is."""
         longest: Tags = {**tags, self.whole: NUMBER_END}
-        rest = {"layer": layer + OUTLINE, "minzoom": 0, "maxzoom": GREATEST_ZOOM, "geometry": {"polygons": []}, "tags": longest}
+        rest = {
+            "layer": layer + OUTLINE,
+            "minzoom": 0,
+            "maxzoom": GREATEST_ZOOM,
+            "geometry": {"polygons": []},
+            "tags": longest,
+        }
         body = len(encoded(rest))
         made = [piece for piece in map(rounded, self.cutter.pieces(shape, body, body)) if piece]
         shown = [piece for piece in made if is_shown(piece, self.zooms[-1])]
@@ -68,5 +79,7 @@ def checked(feature: Feature) -> Feature:
     length = len(encoded(feature))
     if length > MOST_BODY:
         (shape,) = feature["geometry"].items()
-        raise Unfit(f"its JSON has {length:,} bytes, over {MOST_BODY:,}: {count(shape):,} points in {list_count(shape):,} lists")
+        raise Unfit(
+            f"its JSON has {length:,} bytes, over {MOST_BODY:,}: {count(shape):,} points in {list_count(shape):,} lists"
+        )
     return feature

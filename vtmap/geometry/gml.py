@@ -1,8 +1,7 @@
 """Geometries of the map in GML, written as GML 3 and read as GML 2 or 3. Needs no package.
 
-Coordinates are those of `geopackage.py`: EPSG:3857, the middles of the squares of 9 mm that the map distinguishes, in tenths of a millimetre, so
-that a vertex that nobody moved comes back as it was.
-"""
+Coordinates are those of `geopackage.py`: EPSG:3857, the middles of the squares of 9 mm that the map distinguishes, in
+tenths of a millimetre, so that a vertex that nobody moved comes back as it was. """
 from __future__ import annotations
 
 import functools
@@ -19,14 +18,23 @@ POINT, LINE = Frame("gml:pos"), Frame("gml:posList")
 EXTERIOR, INTERIOR = (Frame(name, "gml:LinearRing", "gml:posList") for name in ("gml:exterior", "gml:interior"))
 # The names by which clients know EPSG:3857.
 SYSTEM = re.compile("(?:^|[:#/])(3857|900913)$")
-PARTS = {"points": ("gml:Point", "gml:MultiPoint", "gml:pointMember"), "lines": ("gml:LineString", "gml:MultiCurve", "gml:curveMember"),
-         "polygons": ("gml:Polygon", "gml:MultiSurface", "gml:surfaceMember")}
-MULTIPLE = {"MultiPoint": "points", "MultiLineString": "lines", "MultiCurve": "lines", "MultiPolygon": "polygons", "MultiSurface": "polygons"}
+PARTS = {
+    "points": ("gml:Point", "gml:MultiPoint", "gml:pointMember"),
+    "lines": ("gml:LineString", "gml:MultiCurve", "gml:curveMember"),
+    "polygons": ("gml:Polygon", "gml:MultiSurface", "gml:surfaceMember"),
+}
+MULTIPLE = {
+    "MultiPoint": "points",
+    "MultiLineString": "lines",
+    "MultiCurve": "lines",
+    "MultiPolygon": "polygons",
+    "MultiSurface": "polygons",
+}
 
 
 def gml_of(geometry: Geometry, is_several: bool, system: str) -> Xml:
     """A geometry as GML 3: as one of several parts, or as its only part."""
-    (kind, lists), = geometry.items()
+    ((kind, lists),) = geometry.items()
     several, part = frames_of(kind, is_several, system)
     made = [part.of(coordinates_of(kind, one)) for one in lists]
     return several.of(together(made)) if is_several else made[0]
@@ -85,7 +93,7 @@ def parts_of(element: Element) -> tuple[str, list]:
         return "lines", [points_in(element)]
     if name == "Curve":
         lines = [points_in(part) for part in element.iter() if local(part) == "LineStringSegment"]
-        return "lines", [[point for at, line in enumerate(lines) for point in line[min(at, 1):]]]
+        return "lines", [[point for at, line in enumerate(lines) for point in line[min(at, 1) :]]]
     if name == "Polygon":
         return "polygons", [[ring_in(boundary) for boundary in element]]
     if name not in MULTIPLE:
@@ -117,10 +125,12 @@ def coordinates_in(element: Element) -> list[list[str]]:
         if name in ("pos", "posList"):
             size = int(child.get("srsDimension", element.get("srsDimension", "2")))
             numbers = text.split()
-            found += [numbers[at:at + 2] for at in range(0, len(numbers), size)]
+            found += [numbers[at : at + 2] for at in range(0, len(numbers), size)]
         elif name == "coordinates":
             comma, blank = child.get("cs", ","), child.get("ts", " ")
-            found += [place.split(comma)[:2] for place in (text.split() if blank == " " else text.split(blank)) if place]
+            found += [
+                place.split(comma)[:2] for place in (text.split() if blank == " " else text.split(blank)) if place
+            ]
         elif name == "coord":
             found.append([part.text or "" for part in child][:2])
         elif name == "pointProperty" and len(child):

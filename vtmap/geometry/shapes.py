@@ -1,9 +1,9 @@
-"""Shapes in the units of the map: their size, the tiles that they cover, and what renderers draw wrong. Needs no package.
+"""Shapes in the units of the map: their size, the tiles that they cover, and what renderers draw wrong. Needs no
+package.
 
-A shape is a pair of its kind and its lists, as in the member `geometry` of a feature: `points` with a list of points, `lines` with a
-list of lines, `polygons` with a list of lists of rings. Points are pairs of floats until `rounded` makes integers of them. The first
-point of a ring isn't repeated at its end.
-"""
+A shape is a pair of its kind and its lists, as in the member `geometry` of a feature: `points` with a list of points,
+`lines` with a list of lines, `polygons` with a list of lists of rings. Points are pairs of floats until `rounded` makes
+integers of them. The first point of a ring isn't repeated at its end. """
 from __future__ import annotations
 
 import math
@@ -18,7 +18,7 @@ LEAST, GREATEST = -8192, 8191
 # A shape of this width, in units of a tile, is safe wherever it is.
 SAFE = 4030
 # Points of a feature times tiles that it covers: above it the server would take long for each publication.
-MOST_WORK = 2 ** 21
+MOST_WORK = 2**21
 # A shape, and west, north, east and south of one.
 Shape = tuple[str, list]
 Box = tuple[float, float, float, float]
@@ -38,10 +38,12 @@ def chains(shape: Shape) -> list:
 
 def points_of(geometry: Geometry) -> list:
     """All points of a geometry."""
-    (kind, lists), = geometry.items()
+    ((kind, lists),) = geometry.items()
     if kind == "points":
         return lists
-    return [point for line in (lists if kind == "lines" else [ring for rings in lists for ring in rings]) for point in line]
+    return [
+        point for line in (lists if kind == "lines" else [ring for rings in lists for ring in rings]) for point in line
+    ]
 
 
 def count(shape: Shape) -> int:
@@ -52,7 +54,11 @@ def count(shape: Shape) -> int:
 def list_count(shape: Shape) -> int:
     """How many lists a shape has: each takes two bytes of an edit's text."""
     kind, lists = shape
-    return 1 + {"points": 0, "lines": 1, "polygons": 1}[kind] * len(lists) + (sum(map(len, lists)) if kind == "polygons" else 0)
+    return (
+        1
+        + {"points": 0, "lines": 1, "polygons": 1}[kind] * len(lists)
+        + (sum(map(len, lists)) if kind == "polygons" else 0)
+    )
 
 
 def bounds(shape: Shape) -> Box:
@@ -73,7 +79,7 @@ def met(zoom: int, least: float, greatest: float) -> tuple[int, int]:
     """The first and the last column (or row) of a zoom whose tiles meet something between two coordinates."""
     first = -(-((math.floor(least) >> (20 - zoom)) - 4160) // 4096)
     last = ((math.floor(greatest) >> (20 - zoom)) + 64) // 4096
-    return max(first, 0), min(last, 2 ** zoom - 1)
+    return max(first, 0), min(last, 2**zoom - 1)
 
 
 def covered(box: Box, zoom: int) -> tuple[tuple[int, int], tuple[int, int]]:
@@ -101,7 +107,8 @@ def is_safe(box: Box, zoom: int) -> bool:
 
 
 def boxes(shape: Shape) -> list[Box]:
-    """The bounding boxes that are whole in a tile, if it has any of them: of a polygon its own, of a line that of each segment."""
+    """The bounding boxes that are whole in a tile, if it has any of them: of a polygon its own, of a line that of each
+    segment."""
     kind, lists = shape
     if kind == "polygons":
         return [bounds((kind, [rings])) for rings in lists]
@@ -117,7 +124,11 @@ def wrong_zooms(shape: Shape, zooms: Iterable[int]) -> list[int]:
     """The zooms at which a renderer that clamps coordinates draws a shape wrong."""
     found = boxes(shape)
     widest = max((max(box[2] - box[0], box[3] - box[1]) for box in found), default=0)
-    return [zoom for zoom in zooms if zoom > 1 and widest > SAFE << (20 - zoom) and not all(is_safe(box, zoom) for box in found)]
+    return [
+        zoom
+        for zoom in zooms
+        if zoom > 1 and widest > SAFE << (20 - zoom) and not all(is_safe(box, zoom) for box in found)
+    ]
 
 
 def rounded(shape: Shape) -> Shape | None:

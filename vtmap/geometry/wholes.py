@@ -1,9 +1,9 @@
 """Features that the import cut, put together again. Needs no package.
 
-The pieces of a cut feature have its tags and the tag `whole` with the id of the first piece; the outline of a polygon is in lines of the
-layer LAYER-outline with the same tags. `wholes_of` makes one feature of them: the union of its pieces, without the edges of the cuts.
-Pieces whose tags, layer or zooms have become different since are different features for people, and stay apart.
-"""
+The pieces of a cut feature have its tags and the tag `whole` with the id of the first piece; the outline of a polygon
+is in lines of the layer LAYER-outline with the same tags. `wholes_of` makes one feature of them: the union of its
+pieces, without the edges of the cuts. Pieces whose tags, layer or zooms have become different since are different
+features for people, and stay apart. """
 from __future__ import annotations
 
 import json
@@ -15,8 +15,9 @@ from typing import NamedTuple
 from ..forms import Feature, Tags
 
 WHOLE, OUTLINE = "whole", "-outline"
-# Ids of features are below it, where pieces get ids of their own: piece k of the feature of id n has the id n + k * PIECE.
-PIECE = 2 ** 40
+# Ids of features are below it, where pieces get ids of their own: piece k of the feature of id n has the id n + k *
+# PIECE.
+PIECE = 2**40
 
 
 class Whole(NamedTuple):
@@ -63,7 +64,7 @@ def group_of(feature: Feature, name: str) -> tuple | None:
 def joined(number: int, pieces: dict[int, Feature], name: str) -> Whole:
     """The whole of these pieces."""
     first = pieces[number]
-    (kind, _), = first["geometry"].items()
+    ((kind, _),) = first["geometry"].items()
     parts = [piece["geometry"][kind] for piece in pieces.values() if kind in piece["geometry"]]
     lists = {"points": joined_points, "lines": joined_lines, "polygons": joined_polygons}[kind](parts)
     tags = {key: value for key, value in first["tags"].items() if key != name}
@@ -77,8 +78,10 @@ def joined_points(parts: Iterable[list]) -> list:
 
 # ---- lines
 
+
 def joined_lines(parts: Iterable[list]) -> list:
-    """The lines of all pieces: two of different pieces are one where the end of one alone is the start of the other alone."""
+    """The lines of all pieces: two of different pieces are one where the end of one alone is the start of the other
+    alone."""
     lines = [(at, [tuple(point) for point in line]) for at, part in enumerate(parts) for line in part]
     starts, ends = defaultdict(list), defaultdict(list)
     for at, (piece, line) in enumerate(lines):
@@ -100,14 +103,22 @@ def joined_lines(parts: Iterable[list]) -> list:
             used.add(at)
             joints.add(len(line) - 1)
             line += lines[at][1][1:]
-        made.append([list(point) for place, point in enumerate(line) if place not in joints or not is_between(line[place - 1], point, line[place + 1])])
+        made.append(
+            [
+                list(point)
+                for place, point in enumerate(line)
+                if place not in joints or not is_between(line[place - 1], point, line[place + 1])
+            ]
+        )
     return made
 
 
 # ---- polygons
 
+
 def joined_polygons(parts: Iterable[list]) -> list:
-    """The union of the polygons of all pieces. Cuts run along columns and rows of the world, where the edges of two pieces cancel out."""
+    """The union of the polygons of all pieces. Cuts run along columns and rows of the world, where the edges of two
+    pieces cancel out."""
     kept, straight = [], (defaultdict(list), defaultdict(list))
     for rings in (rings for part in parts for rings in part):
         for at, ring in enumerate(rings):
@@ -125,7 +136,9 @@ def joined_polygons(parts: Iterable[list]) -> list:
             kept += [((at, one), (at, other)) if axis == 0 else ((one, at), (other, at)) for one, other in left]
             if is_cut:
                 cuts[axis].add(at)
-    rings = [ring for loop in loops(kept) for ring in [without_joints(loop, cuts)] if len(ring) > 2 and twice_area(ring)]
+    rings = [
+        ring for loop in loops(kept) for ring in [without_joints(loop, cuts)] if len(ring) > 2 and twice_area(ring)
+    ]
     return polygons_of(rings)
 
 
@@ -140,12 +153,15 @@ def oriented(ring: list, is_outer: bool) -> list:
 
 
 def right_handed(feature: Feature) -> Feature:
-    """The feature with its rings as GeoJSON has them (RFC 7946, 3.1.6): outer ones counterclockwise in longitude and latitude, inner ones clockwise.
-    In the map, whose rows go down, that is the other way round."""
+    """The feature with its rings as GeoJSON has them (RFC 7946, 3.1.6): outer ones counterclockwise in longitude and
+    latitude, inner ones clockwise. In the map, whose rows go down, that is the other way round."""
     polygons = feature["geometry"].get("polygons")
     if polygons is None:
         return feature
-    return {**feature, "geometry": {"polygons": [[oriented(ring, at > 0) for at, ring in enumerate(rings)] for rings in polygons]}}
+    return {
+        **feature,
+        "geometry": {"polygons": [[oriented(ring, at > 0) for at, ring in enumerate(rings)] for rings in polygons]},
+    }
 
 
 def uncancelled(edges: Iterable[tuple]) -> tuple[list, bool]:
@@ -177,10 +193,10 @@ def loops(edges: Iterable[tuple]) -> Iterator[list]:
             while len(path) > 1:
                 before, here = path[-2:]
                 if here in seen:
-                    yield path[seen[here]:-1]
-                    for place in path[seen[here] + 1:-1]:
+                    yield path[seen[here] : -1]
+                    for place in path[seen[here] + 1 : -1]:
                         del seen[place]
-                    path = path[:seen[here] + 1]
+                    path = path[: seen[here] + 1]
                 else:
                     seen[here] = len(path) - 1
                 # Edges that don't close are of nothing that the import makes.
@@ -190,7 +206,8 @@ def loops(edges: Iterable[tuple]) -> Iterator[list]:
 
 
 def next_of(before: tuple, here: tuple, choices: list[tuple]) -> tuple:
-    """Takes the next place out of several: the first one clockwise of where the path came from, which is round the same inside."""
+    """Takes the next place out of several: the first one clockwise of where the path came from, which is round the same
+    inside."""
     if len(choices) == 1:
         return choices.pop()
     back = math.atan2(before[1] - here[1], before[0] - here[0])
@@ -199,7 +216,8 @@ def next_of(before: tuple, here: tuple, choices: list[tuple]) -> tuple:
 
 
 def is_between(one: Sequence, place: Sequence, other: Sequence) -> bool:
-    """Whether a place is on the line between two others, to what rounding moves it: one and a half units of the world, of 9 mm each."""
+    """Whether a place is on the line between two others, to what rounding moves it: one and a half units of the world,
+    of 9 mm each."""
     wide, high = other[0] - one[0], other[1] - one[1]
     away = abs(wide * (place[1] - one[1]) - high * (place[0] - one[0]))
     return away <= 1.5 * math.hypot(wide, high) and (place[0] - one[0]) * wide + (place[1] - one[1]) * high >= 0

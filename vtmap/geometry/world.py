@@ -1,9 +1,10 @@
-"""Coordinates: points of the map, which are integers from 0 to 2^32 - 1, Web Mercator in metres, longitude and latitude. Needs no package."""
+"""Coordinates: points of the map, which are integers from 0 to 2^32 - 1, Web Mercator in metres, longitude and
+latitude. Needs no package."""
 import math
 from collections.abc import Iterable, Sequence
 
 # How wide the map is in its own units, and the earth in Web Mercator, in metres.
-WORLD = 2 ** 32
+WORLD = 2**32
 EARTH = 40075016.685578488
 HALF = EARTH / 2
 

@@ -29,7 +29,8 @@ GATEWAY, DRAWER = "vtserve-wfs@{}.service", "vtserve-wmts@{}.service"
 WATCH, WATCH_ALL = STARTED[2], "vtserve-watch-maps.timer"
 # Answers for all maps (`vtmap wfs --maps`): where it is enabled, no map has a gateway of its own.
 GATEWAY_ALL = "vtserve-wfs-maps.service"
-# Follows the edits of all maps (`vtmap follow --maps`): where it is enabled, no map has a log or a standby's follower of its own.
+# Follows the edits of all maps (`vtmap follow --maps`): where it is enabled, no map has a log or a standby's follower
+# of its own.
 FOLLOW_ALL = "vtserve-follow-maps.service"
 # What is done once at first: `vtmap watch` looks for both.
 FIRST = ("vtserve-publish@{}.service", "vtserve-backup@{}.service")
@@ -125,7 +126,9 @@ class Machine:
         path = self.path(MAPS, one.name)
         with open(path, encoding="utf-8") as file:
             lines = [line for line in file if not line.startswith("BOUNDS=")]
-        replaced(path, "".join(lines) + "".join(line + "\n" for line in one.text.splitlines() if line.startswith("BOUNDS=")))
+        replaced(
+            path, "".join(lines) + "".join(line + "\n" for line in one.text.splitlines() if line.startswith("BOUNDS="))
+        )
         self.owned(path, 0o640, False)
 
     def limit(self, name: str, memory: str) -> None:
@@ -137,7 +140,11 @@ class Machine:
 
     def start(self, one: MapHere, further: list[str]) -> None:
         """Starts what serves a map, now and with the machine. `further`: other units than each map has."""
-        left = [unit for unit, of_all in ((WATCH, WATCH_ALL), (GATEWAY, GATEWAY_ALL)) if unit in (*STARTED, *further) and self.is_enabled(of_all)]
+        left = [
+            unit
+            for unit, of_all in ((WATCH, WATCH_ALL), (GATEWAY, GATEWAY_ALL))
+            if unit in (*STARTED, *further) and self.is_enabled(of_all)
+        ]
         units = [unit.format(one.name) for unit in (*STARTED, *further) if unit not in left]
         self.systemctl("enable", "--now", *units)
         self.systemctl("start", "--no-block", *(unit.format(one.name) for unit in FIRST))

@@ -11,15 +11,17 @@ from ..faults import Refused, Wrong
 NAME, HOST = re.compile(r"[a-z][a-z0-9-]{0,30}"), re.compile(r"[a-z0-9]([a-z0-9.-]{0,252}[a-z0-9])?")
 # The first part of paths that one map has: they can't be names too.
 PATHS = ("admin", "edits", "features", "files", "map", "ogc", "pages", "publish", "wfs", "wmts", "xyz")
-# Each map has two ports, from these on: its server's, and its gateway's after it. That of its pictures is so far from them.
+# Each map has two ports, from these on: its server's, and its gateway's after it. That of its pictures is so far from
+# them.
 FIRST_PORT, LAST_PORT, FAR = 8100, 65534, 10000
 ABOUT = """# The map {name}, by `vtmap maps`. Its units read this file: add variables of their commands, such as VTSERVE_PAUSE.
 """
 
 
 class MapHere(NamedTuple):
-    """A map of this machine: its name, the ports of its server and of its gateway, its own host names, the box in which its features are, in degrees
-    from west and south to east and north, and the port of its pictures, 0 if the map is older than they are."""
+    """A map of this machine: its name, the ports of its server and of its gateway, its own host names, the box in which
+    its features are, in degrees from west and south to east and north, and the port of its pictures, 0 if the map is
+    older than they are."""
 
     name: str
     port: int
@@ -33,14 +35,20 @@ class MapHere(NamedTuple):
         """The content of its file."""
         hosts, bounds = " ".join(self.hosts), ",".join(f"{degrees:g}" for degrees in self.bounds)
         further = [f"PICTURES={self.pictures}\n"] * bool(self.pictures) + [f"BOUNDS={bounds}\n"] * bool(bounds)
-        return ABOUT.format(name=self.name) + f'PORT={self.port}\nGATEWAY={self.gateway}\nHOSTS="{hosts}"\n' + "".join(further)
+        return (
+            ABOUT.format(name=self.name)
+            + f'PORT={self.port}\nGATEWAY={self.gateway}\nHOSTS="{hosts}"\n'
+            + "".join(further)
+        )
 
     def named(self, text: str) -> str:
         """A word of a command with what this map has in place of {map}, {port} and {gateway}. Raises `Wrong`."""
         try:
             return text.format(map=self.name, port=self.port, gateway=self.gateway)
         except (LookupError, ValueError) as fault:
-            raise Wrong(f"--maps: {{map}}, {{port}} and {{gateway}} can be named in the other words: {fault}") from fault
+            raise Wrong(
+                f"--maps: {{map}}, {{port}} and {{gateway}} can be named in the other words: {fault}"
+            ) from fault
 
 
 def box(text: str) -> tuple[float, ...]:
@@ -50,7 +58,10 @@ def box(text: str) -> tuple[float, ...]:
     except ValueError:
         raise Wrong(f"{text!r} is no box of degrees: west,south,east,north, such as 7.2,54.3,7.9,54.8") from None
     if not (-180 <= west < east <= 180 and -85.06 <= south < north <= 85.06):
-        raise Wrong(f"{text!r} is no box of the map: west is less than east, from -180 to 180, and south less than north, from -85.06 to 85.06")
+        raise Wrong(
+            f"{text!r} is no box of the map: west is less than east, from -180 to 180, and south less than north, "
+            "from -85.06 to 85.06"
+        )
     return west, south, east, north
 
 

@@ -11,11 +11,17 @@ ONE_GATEWAY = '"~." gateways;\n'
 def upstream_of(one: MapHere) -> str:
     """Who has a map, its gateway and its pictures, and the log of its edits."""
     variable = f"$is_edit_of_{one.name.replace('-', '_')}"
-    drawer = f"""upstream drawer-{one.name} {{
+    drawer = (
+        f"""upstream drawer-{one.name} {{
     server 127.0.0.1:{one.pictures};
 }}
-""" if one.pictures else ""
-    return drawer + f"""upstream vtserve-{one.name} {{
+"""
+        if one.pictures
+        else ""
+    )
+    return (
+        drawer
+        + f"""upstream vtserve-{one.name} {{
     server 127.0.0.1:{one.port};
     keepalive 4;
     keepalive_timeout 30s;
@@ -29,6 +35,7 @@ map "$is_edit:$map" {variable} {{
 }}
 access_log edits-{one.name}.log edits if={variable};
 """
+    )
 
 
 def rewrite_of(one: MapHere) -> str:

@@ -1,8 +1,9 @@
-"""The replicas of the map of this machine: processes that have each of its edits, and make tiles for readers. Needs no package.
+"""The replicas of the map of this machine: processes that have each of its edits, and make tiles for readers. Needs no
+package.
 
-A replica is a port. Its unit, vtserve-replica@PORT, begins as a copy of the disk each time that it is started; vtserve-replicas follows the
-server into all of them, by the file /etc/vtserve/replicas; nginx has them in two files that it includes.
-"""
+A replica is a port. Its unit, vtserve-replica@PORT, begins as a copy of the disk each time that it is started;
+vtserve-replicas follows the server into all of them, by the file /etc/vtserve/replicas; nginx has them in two files
+that it includes. """
 from __future__ import annotations
 
 import os
@@ -25,8 +26,10 @@ WEIGHT = 16
 def upstream_of(ports: list[int], server: int) -> str:
     """Who makes the tiles of readers: the same one for a tile each time, so that its tag stays."""
     lines = "".join(f"    server 127.0.0.1:{port} weight={WEIGHT};\n" for port in ports)
-    return (f"{ABOUT}upstream replicas {{\n    hash $uri consistent;\n{lines}    server 127.0.0.1:{server};\n"
-            "    keepalive 16;\n    keepalive_timeout 30s;\n}\n")
+    return (
+        f"{ABOUT}upstream replicas {{\n    hash $uri consistent;\n{lines}    server 127.0.0.1:{server};\n"
+        "    keepalive 16;\n    keepalive_timeout 30s;\n}\n"
+    )
 
 
 class Replicas:
@@ -56,7 +59,10 @@ class Replicas:
         if folder:
             place = self.machine.path(UNITS, SERVES.format(port) + ".d")
             os.makedirs(place, exist_ok=True)
-            replaced(os.path.join(place, "disk.conf"), f"[Service]\nEnvironment=DISK={folder}/replica-{port}.disk\nReadWritePaths={folder}\n")
+            replaced(
+                os.path.join(place, "disk.conf"),
+                f"[Service]\nEnvironment=DISK={folder}/replica-{port}.disk\nReadWritePaths={folder}\n",
+            )
             self.machine.systemctl("daemon-reload")
         self.machine.systemctl("enable", "--now", SERVES.format(port))
 
@@ -84,7 +90,11 @@ class Replicas:
     def tell_nginx(self, ports: list[int]) -> bool:
         """Has nginx ask these for the tiles of readers. Returns whether nginx runs."""
         os.makedirs(self.machine.path(NGINX), exist_ok=True)
-        files = {"replicas.conf": upstream_of(ports, self.server), "readers.conf": f'{ABOUT}"" replicas;\n'} if ports else {}
+        files = (
+            {"replicas.conf": upstream_of(ports, self.server), "readers.conf": f'{ABOUT}"" replicas;\n'}
+            if ports
+            else {}
+        )
         for name in ("replicas.conf", "readers.conf"):
             path = self.machine.path(NGINX, name)
             if name in files:

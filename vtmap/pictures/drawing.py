@@ -17,20 +17,21 @@ from .style import AREAS, LINES, POINTS, Colour, Style, width
 
 # Points that are drawn at once: of see-through areas that overlap and are in two parts, the second lets the first show.
 POINTS_AT_ONCE = 2000
-# Pixels of the radius of a point, of its white edge, of a font and of the white around its letters; letters of a name that are looked at; and the
-# most names that a place is sought for.
+# Pixels of the radius of a point, of its white edge, of a font and of the white around its letters; letters of a name
+# that are looked at; and the most names that a place is sought for.
 DOT, EDGE, FONT, HALO, MOST_LETTERS, MOST_NAMES = 5, 1.5, 12, 3, 100, 2000
 FACE = "DejaVu Sans"
 # What a rule draws: areas and their edges, lines that are the edges of areas which the import cut, lines, and points.
 DRAWN = ("area", "edge", "outline", "line", "point")
-WHITE, INK, AROUND = (1, 1, 1, 1), (0x22 / 255, 0x22 / 255, 0x22 / 255, 1), (1, 1, 1, 0xd0 / 255)
+WHITE, INK, AROUND = (1, 1, 1, 1), (0x22 / 255, 0x22 / 255, 0x22 / 255, 1), (1, 1, 1, 0xD0 / 255)
 
 Chain = list[tuple[int, int]]
 Box = tuple[float, float, float, float]
 
 
 class Part(NamedTuple):
-    """The part of a tile that a picture shows: where it begins and how long its sides are, in units of the tile; and the pixels of a side."""
+    """The part of a tile that a picture shows: where it begins and how long its sides are, in units of the tile; and
+    the pixels of a side."""
 
     left: float
     top: float
@@ -44,7 +45,8 @@ class Part(NamedTuple):
 
 
 class Name(NamedTuple):
-    """A name, where it is written, in units of the tile, and how far it is turned. `length`: that of the line along which it is."""
+    """A name, where it is written, in units of the tile, and how far it is turned. `length`: that of the line along
+    which it is."""
 
     key: Any
     text: str
@@ -115,13 +117,21 @@ def prepared(layers: dict[str, list[TileFeature]], style: Style, zoom: float, pa
 
 
 def name_of(key: Any, text: str, kind: int, lists: list[Chain]) -> Name:
-    """Where a feature's name is written: at its point, in the middle of its box, or along the longest segment of its lines."""
+    """Where a feature's name is written: at its point, in the middle of its box, or along the longest segment of its
+    lines."""
     if kind != LINES_OF_TILE:
         west, north, east, south = box_of(lists[0])
         return Name(key, text, (west + east) / 2, (north + south) / 2, is_point=kind != AREAS_OF_TILE)
     segments = [(one, other) for chain in lists for one, other in zip(chain, chain[1:])] or [(lists[0][0], lists[0][0])]
     (x, y), (to_x, to_y) = max(segments, key=lambda ends: math.dist(*ends))
-    return Name(key, text, (x + to_x) / 2, (y + to_y) / 2, math.atan((to_y - y) / (to_x - x or 1e-9)), math.hypot(to_x - x, to_y - y))
+    return Name(
+        key,
+        text,
+        (x + to_x) / 2,
+        (y + to_y) / 2,
+        math.atan((to_y - y) / (to_x - x or 1e-9)),
+        math.hypot(to_x - x, to_y - y),
+    )
 
 
 # ---- shapes
@@ -198,21 +208,25 @@ class Taken:
         west, north, east, south = box
         if west < 0 or north < 0 or east > self.side or south > self.side:
             return False
-        if any(west <= other[2] and east >= other[0] and north <= other[3] and south >= other[1] for other in self.boxes):
+        if any(
+            west <= other[2] and east >= other[0] and north <= other[3] and south >= other[1] for other in self.boxes
+        ):
             return False
         self.boxes.append(box)
         return True
 
 
 def lefts(name: Name, wide: float) -> list[tuple[float, float]]:
-    """Where the text of a name may begin, from its place: beside a point, and above or below it where its sides are taken."""
+    """Where the text of a name may begin, from its place: beside a point, and above or below it where its sides are
+    taken."""
     if not name.is_point:
         return [(-wide / 2, 0)]
     return [(9, 0), (-9 - wide, 0), (-wide / 2, -14), (-wide / 2, 14)]
 
 
 def write_names(board: Any, made: Prepared, part: Part) -> None:
-    """Writes the names, in pixels: each feature's once, none over another or over the edge of the picture, and those of points first."""
+    """Writes the names, in pixels: each feature's once, none over another or over the edge of the picture, and those of
+    points first."""
     taken, written = Taken(part.pixels), set()
     board.select_font_face(FACE, cairo.FONT_SLANT_NORMAL, cairo.FONT_WEIGHT_NORMAL)
     board.set_font_size(FONT)
@@ -253,7 +267,9 @@ def write(board: Any, text: str, x: float, y: float, turn: float, left: float, d
 # ---- pictures
 
 
-def drawn(layers: dict[str, list[TileFeature]], style: Style, zoom: float, part: Part, scale: int, is_transparent: bool) -> Any:
+def drawn(
+    layers: dict[str, list[TileFeature]], style: Style, zoom: float, part: Part, scale: int, is_transparent: bool
+) -> Any:
     """The picture of a part of a tile. `scale`: the dots of a pixel."""
     kind = cairo.FORMAT_ARGB32 if is_transparent else cairo.FORMAT_RGB24
     picture = cairo.ImageSurface(kind, part.pixels * scale, part.pixels * scale)

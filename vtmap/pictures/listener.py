@@ -1,7 +1,7 @@
 """HTTP for pictures of the map: WMTS, and tiles by their paths. Needs no package.
 
-Addresses, hosts and pages of other origins are judged as the gateway of `vtmap wfs` judges them, whose handler this one is made of.
-"""
+Addresses, hosts and pages of other origins are judged as the gateway of `vtmap wfs` judges them, whose handler this one
+is made of. """
 from __future__ import annotations
 
 import re

@@ -1,5 +1,5 @@
-"""What the processes that draw are asked, and answer: the length of a text in JSON, the length of the bytes after it, both, the text and the bytes.
-Needs no package."""
+"""What the processes that draw are asked, and answer: the length of a text in JSON, the length of the bytes after it,
+both, the text and the bytes. Needs no package."""
 from __future__ import annotations
 
 import json

@@ -1,8 +1,8 @@
 """A process that draws: `python3 -m vtmap.pictures.painter MEMORY`. Needs pycairo.
 
-It takes drawings one by one from standard input, and answers each on standard output. What is drawn may be anything that a map has: a drawing that
-takes more memory than this process may have is refused, and one that takes too long is ended with the process.
-"""
+It takes drawings one by one from standard input, and answers each on standard output. What is drawn may be anything
+that a map has: a drawing that takes more memory than this process may have is refused, and one that takes too long is
+ended with the process. """
 from __future__ import annotations
 
 import sys

@@ -1,4 +1,5 @@
-"""The processes that draw, and the bounds of their work: the seconds and the memory of a drawing, and how many wait. Needs no package.
+"""The processes that draw, and the bounds of their work: the seconds and the memory of a drawing, and how many wait.
+Needs no package.
 
 The drawings of one client never take all of the processes, so those of others needn't wait for them.
 """
@@ -16,7 +17,8 @@ from ..faults import Refused
 from ..interpreters import command_of
 from .messages import NO_MEMORY, message, read
 
-# The seconds of a drawing and of the wait for a process, the bytes of memory of one, and the drawings that wait: all, and those of one client.
+# The seconds of a drawing and of the wait for a process, the bytes of memory of one, and the drawings that wait: all,
+# and those of one client.
 LONGEST, WAIT, MEMORY, MOST_WAITING, MOST_OF_ONE = 20, 30, 1 << 29, 64, 48
 CHUNK = 1 << 20
 
@@ -97,7 +99,7 @@ def parts_of(data: bytes, lengths: list[int]) -> list[bytes]:
     """Parts of these lengths."""
     found, at = [], 0
     for length in lengths:
-        found.append(data[at:at + length])
+        found.append(data[at : at + length])
         at += length
     return found
 

@@ -20,8 +20,8 @@ Colour = tuple[float, float, float, float]
 
 
 class Rule(NamedTuple):
-    """A rule. `when`: the tags of the features that it is of. `width`: that of lines in pixels at zoom 15. `name`: the tag that is written, from the
-    zoom `first` on. `is_own`: whether the colour is that of the layer alone."""
+    """A rule. `when`: the tags of the features that it is of. `width`: that of lines in pixels at zoom 15. `name`: the
+    tag that is written, from the zoom `first` on. `is_own`: whether the colour is that of the layer alone."""
 
     layer: str
     when: dict[str, Any]
@@ -41,7 +41,7 @@ def colour_of(text: str) -> Colour:
     found = HEX.fullmatch(text)
     if found:
         digits = found[1] if len(found[1]) > 3 else "".join(digit * 2 for digit in found[1])
-        red, green, blue, *rest = (int(digits[at:at + 2], 16) / 255 for at in range(0, len(digits), 2))
+        red, green, blue, *rest = (int(digits[at : at + 2], 16) / 255 for at in range(0, len(digits), 2))
         return red, green, blue, rest[0] if rest else 1.0
     found = RGBA.fullmatch(text)
     if found is None:
@@ -57,9 +57,21 @@ def plain(layer: str) -> str:
 
 def rule_of(given: dict[str, Any]) -> Rule:
     """A rule of style.json."""
-    area, edge, line, casing, point = (colour_of(given[part]) if given.get(part) else None for part in ("area", "edge", "line", "casing", "point"))
-    return Rule(str(given["layer"]), dict(given.get("when") or {}), area, edge, line, casing, point, float(given.get("width", 2)), given.get("name"),
-                float(given.get("from", 0)))
+    area, edge, line, casing, point = (
+        colour_of(given[part]) if given.get(part) else None for part in ("area", "edge", "line", "casing", "point")
+    )
+    return Rule(
+        str(given["layer"]),
+        dict(given.get("when") or {}),
+        area,
+        edge,
+        line,
+        casing,
+        point,
+        float(given.get("width", 2)),
+        given.get("name"),
+        float(given.get("from", 0)),
+    )
 
 
 def own_rule(given: dict[str, Any], layer: str, at: int) -> Rule:
@@ -85,8 +97,8 @@ def checked(text: str) -> dict[str, Any]:
 
 
 class Style:
-    """The rules for a map of these layers. `order`: places of rules, each with what is drawn of it then; of layers with a colour of their own all
-    areas are below all lines, and these below all points."""
+    """The rules for a map of these layers. `order`: places of rules, each with what is drawn of it then; of layers with
+    a colour of their own all areas are below all lines, and these below all points."""
 
     def __init__(self, given: dict[str, Any], layers: Iterable[str]) -> None:
         self.background = colour_of(given["background"])
@@ -94,7 +106,9 @@ class Style:
         others = sorted({plain(layer) for layer in layers} - named)
         self.rules: list[Rule] = []
         for rule in given["rules"]:
-            self.rules += [own_rule(rule, layer, at) for at, layer in enumerate(others)] if "colours" in rule else [rule_of(rule)]
+            self.rules += (
+                [own_rule(rule, layer, at) for at, layer in enumerate(others)] if "colours" in rule else [rule_of(rule)]
+            )
         own = [at for at, rule in enumerate(self.rules) if rule.is_own]
         self.order: list[tuple[int, tuple[str, ...]]] = []
         for at, rule in enumerate(self.rules):

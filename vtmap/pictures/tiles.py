@@ -1,4 +1,5 @@
-"""Tiles as pictures: drawn once for each version of the tile, which the server tells by its tag (`--etags`). Needs no package."""
+"""Tiles as pictures: drawn once for each version of the tile, which the server tells by its tag (`--etags`). Needs no
+package."""
 from __future__ import annotations
 
 import hashlib
@@ -18,12 +19,14 @@ from ..files.vector_tile import EXTENT
 from .painters import Painters, TooLarge
 from .style import checked
 
-# The greatest zoom of pictures, the pixels of a side of one, and the zooms by which the last tiles of a map are enlarged at the most.
+# The greatest zoom of pictures, the pixels of a side of one, and the zooms by which the last tiles of a map are
+# enlarged at the most.
 LAST_ZOOM, SIDE, MOST_ENLARGED = 22, 256, 12
-# The most bytes of a tile that is drawn, of pictures that are kept, the seconds for which layers and zooms of the map are, those that a reply of the
-# server may take, and how many replies are waited for at a time.
+# The most bytes of a tile that is drawn, of pictures that are kept, the seconds for which layers and zooms of the map
+# are, those that a reply of the server may take, and how many replies are waited for at a time.
 MOST_TILE, MOST_KEPT, METADATA, LONGEST, AT_ONCE = 8 << 20, 128 << 20, 10, 60, 8
-# The seconds for which what was too large isn't tried again: on a machine that did much else it may only have been late.
+# The seconds for which what was too large isn't tried again: on a machine that did much else it may only have been
+# late.
 REST = 600
 # What pictures of before are told apart by from those of another version of this program.
 DRAWING = "1"
@@ -37,7 +40,8 @@ class Picture(NamedTuple):
 
 
 class Wanted(NamedTuple):
-    """Pictures that are drawn together: those of a square of 2 x 2 of them, whose tile has the zoom `zoom` and may be an enlarged part of one above."""
+    """Pictures that are drawn together: those of a square of 2 x 2 of them, whose tile has the zoom `zoom` and may be
+    an enlarged part of one above."""
 
     zoom: int
     column: int
@@ -47,7 +51,8 @@ class Wanted(NamedTuple):
 
 
 class Kept(NamedTuple):
-    """Pictures that are kept, with the look and the tag of the tile that they are of; or why there are none, and until when that counts."""
+    """Pictures that are kept, with the look and the tag of the tile that they are of; or why there are none, and until
+    when that counts."""
 
     look: str
     tag: str
@@ -88,7 +93,9 @@ class Source:
         kind = http.client.HTTPSConnection if self.url.scheme == "https" else http.client.HTTPConnection
         return kind(self.url.netloc, timeout=LONGEST)
 
-    def asked(self, connection: http.client.HTTPConnection, path: str, fields: dict[str, str]) -> tuple[int, str | None, bytes]:
+    def asked(
+        self, connection: http.client.HTTPConnection, path: str, fields: dict[str, str]
+    ) -> tuple[int, str | None, bytes]:
         """The same, on a connection, which is kept then."""
         connection.request("GET", self.url.path.rstrip("/") + path, headers={**self.person, **fields})
         reply = connection.getresponse()
@@ -111,7 +118,8 @@ class Metadata(NamedTuple):
 
 
 class StyleFile:
-    """A style.json, which is read anew when it changes. One that can't be read then changes nothing, and is reported once."""
+    """A style.json, which is read anew when it changes. One that can't be read then changes nothing, and is reported
+    once."""
 
     def __init__(self, path: str) -> None:
         self.path, self.lock = path, threading.Lock()
@@ -167,7 +175,10 @@ class Tiles:
             status, _, data = self.source.ask("/map/metadata", {})
             try:
                 layers = json.loads(data)["vector_layers"]
-                found = Metadata(tuple(sorted(layer["id"] for layer in layers)), max((int(layer["maxzoom"]) for layer in layers), default=0))
+                found = Metadata(
+                    tuple(sorted(layer["id"] for layer in layers)),
+                    max((int(layer["maxzoom"]) for layer in layers), default=0),
+                )
             except (ValueError, LookupError, TypeError) as fault:
                 raise Stopped(f"{self.source.url.netloc} has no map: {status}") from fault
             known = self.known = now, found
@@ -178,9 +189,16 @@ class Tiles:
         zoom, column, row = place
         metadata, given = self.metadata(), self.style.now()
         look = hashlib.sha256(json.dumps([DRAWING, given, metadata], sort_keys=True).encode()).hexdigest()[:16]
-        wanted = Wanted(max(zoom - 1, 0), column // 2, row // 2, scale, is_transparent) if zoom else Wanted(-1, 0, 0, scale, is_transparent)
+        wanted = (
+            Wanted(max(zoom - 1, 0), column // 2, row // 2, scale, is_transparent)
+            if zoom
+            else Wanted(-1, 0, 0, scale, is_transparent)
+        )
         if wanted.zoom - metadata.last > MOST_ENLARGED:
-            raise TooLarge(f"the last tiles of the map have zoom {metadata.last}, and aren't enlarged more than {2 ** MOST_ENLARGED} times")
+            raise TooLarge(
+                f"the last tiles of the map have zoom {metadata.last}, and aren't enlarged more than "
+                f"{2 ** MOST_ENLARGED} times"
+            )
         kept = self.current(client, wanted, look, metadata, given)
         if kept.fault:
             raise TooLarge(kept.fault)
@@ -216,12 +234,16 @@ class Tiles:
             while self.bytes > MOST_KEPT:
                 self.bytes -= size_of(self.kept.popitem(last=False)[1])
 
-    def made(self, client: str, wanted: Wanted, before: Kept | None, look: str, metadata: Metadata, given: dict[str, Any]) -> Kept:
+    def made(
+        self, client: str, wanted: Wanted, before: Kept | None, look: str, metadata: Metadata, given: dict[str, Any]
+    ) -> Kept:
         """The pictures of a square: those of before if the tile is as it was then."""
         up = max(wanted.zoom - metadata.last, 0)
         zoom, column, row = max(wanted.zoom, 0) - up, wanted.column >> up, wanted.row >> up
         try:
-            status, tag, content = self.source.ask(f"/map/{zoom}/{column}/{row}.mvt", {"If-None-Match": before.tag} if before and before.tag else {})
+            status, tag, content = self.source.ask(
+                f"/map/{zoom}/{column}/{row}.mvt", {"If-None-Match": before.tag} if before and before.tag else {}
+            )
         except TooLarge as fault:
             return Kept(look, "", (), str(fault), time.monotonic() + REST)
         tag = tag or hashlib.sha256(content).hexdigest()
@@ -232,11 +254,18 @@ class Tiles:
             return before
         if status not in (200, 204):
             raise Stopped(f"tile {zoom}/{column}/{row}: {status}")
-        side = EXTENT / 2 ** up
+        side = EXTENT / 2**up
         parts = 1 if wanted.zoom < 0 else 2
-        part = (wanted.column % 2 ** up * side, wanted.row % 2 ** up * side, side, SIDE * parts)
-        words = {"style": given, "layers": metadata.layers, "zoom": wanted.zoom, "part": part, "pieces": parts, "scale": wanted.scale,
-                 "transparent": wanted.is_transparent}
+        part = (wanted.column % 2**up * side, wanted.row % 2**up * side, side, SIDE * parts)
+        words = {
+            "style": given,
+            "layers": metadata.layers,
+            "zoom": wanted.zoom,
+            "part": part,
+            "pieces": parts,
+            "scale": wanted.scale,
+            "transparent": wanted.is_transparent,
+        }
         try:
             return Kept(look, tag, tuple(self.painters.paint(client, words, content)))
         except TooLarge as fault:
@@ -250,4 +279,4 @@ def size_of(kept: Kept) -> int:
 
 def is_place(zoom: int, column: int, row: int) -> bool:
     """Whether there is such a tile."""
-    return 0 <= zoom <= LAST_ZOOM and 0 <= column < 2 ** zoom and 0 <= row < 2 ** zoom
+    return 0 <= zoom <= LAST_ZOOM and 0 <= column < 2**zoom and 0 <= row < 2**zoom

@@ -44,7 +44,9 @@ def by_query(query: str) -> Asked:
             raise Report("InvalidParameterValue", name, f"{name} is said twice")
     service = needed(given, "service")
     if service != "WMTS":
-        raise Report("InvalidParameterValue", "service", f"this service is WMTS: its capabilities are at wmts{CAPABILITIES}")
+        raise Report(
+            "InvalidParameterValue", "service", f"this service is WMTS: its capabilities are at wmts{CAPABILITIES}"
+        )
     request = needed(given, "request")
     if request == "GetCapabilities":
         versions = given.get("acceptversions", VERSION).split(",")
@@ -84,10 +86,10 @@ def tile_of(values: list[str]) -> Asked:
     for word, choices in known.items():
         if said[word] not in choices:
             raise Report("InvalidParameterValue", SPELLED[word], f"{SPELLED[word]} is {' or '.join(choices)}")
-    for word in WORDS[len(known):]:
+    for word in WORDS[len(known) :]:
         if not NUMBER.fullmatch(said[word]):
             raise Report("InvalidParameterValue", SPELLED[word], f"{SPELLED[word]} is a number")
-    zoom, row, column = (int(said[word]) for word in WORDS[len(known):])
+    zoom, row, column = (int(said[word]) for word in WORDS[len(known) :])
     if not is_place(zoom, 0, 0):
         raise Report("InvalidParameterValue", "TileMatrix", "there is no such TileMatrix")
     if not is_place(zoom, 0, row):
