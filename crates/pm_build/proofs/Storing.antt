@@ -4,6 +4,7 @@ use Rattle.std.specs.List.{concat}
 use Rattle.std.proofs.lemmas.List.{drop_all, drop_at}
 use Rattle.pm_build.specs.Ahead.{AreStored}
 use Rattle.pm_build.specs.Indexed.{IndexView}
+use Rattle.pm_build.specs.Storing.{ContentsView}
 use Rattle.pm_build.proofs.Pieces.{concat_one_more, first_parts}
 
 -- no contents
@@ -32,3 +33,7 @@ ahead_stored cs new from bytes is at are =
 -- nothing is ahead then
 pub none_ahead : (cs : List (List ℕ)) (bytes : List ℕ) → bytes ≡ concat cs → drop (length (concat cs)) bytes ≡ []
 none_ahead cs bytes is = drop_all (length (concat cs)) bytes (omega (arith, ap (λ (xs : List ℕ). length xs) is))
+
+-- the same contents, and nothing ahead of either
+pub same_view : (v w : ContentsView) → v.index ≡ w.index → v.ahead ≡ [] → w.ahead ≡ [] → v ≡ w
+same_view v w index none before = λ i. record { index = index i; ahead = (none ∙ sym before) i }

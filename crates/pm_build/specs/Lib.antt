@@ -17,5 +17,6 @@ pub mod Offsets
 pub mod Placed
 pub mod Runs
 pub mod Storing
+pub mod TileContents
 pub mod Tiles
 pub mod Vector

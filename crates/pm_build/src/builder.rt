@@ -19,7 +19,8 @@ use crate::counter::ArchiveCounter;
 use crate::fault::BuildFault;
 use crate::limit::MAX_ENTRIES;
 use crate::run::Run;
-use crate::runs::{add_ahead, add_tile, end_of, last_content};
+use crate::runs::{add_tile, end_of, last_content};
+use crate::tile_content::TileContent;
 use std::alloc::{AllocError, Global};
 use std::marker::Model;
 
@@ -125,7 +126,8 @@ impl ArchiveBuilder {
         ensures memory { result ≡ Err BuildFault.Memory → BeginsRun self.old.tiles (id, content.now) }
     {
         self.contents.drop_ahead();
-        match add_tile(&mut self.runs, &mut self.contents, id, content) {
+        let given = TileContent::Given(content);
+        match add_tile(&mut self.runs, &mut self.contents, id, given) {
             Ok(()) => {}
             Err(fault) => return Err(fault),
         }
@@ -148,7 +150,7 @@ impl ArchiveBuilder {
         ensures many { (result ≡ Err BuildFault.TooManyEntries) ↔ AreTooMany (self.old.tiles ++ (id, self.old.ahead) ∷ []) }
         ensures memory { result ≡ Err BuildFault.Memory → BeginsRun self.old.tiles (id, self.old.ahead) }
     {
-        match add_ahead(&mut self.runs, &mut self.contents, id) {
+        match add_tile(&mut self.runs, &mut self.contents, id, TileContent::Ahead) {
             Ok(()) => {}
             Err(fault) => return Err(fault),
         }

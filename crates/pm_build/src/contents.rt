@@ -172,7 +172,7 @@ impl Contents {
 
     /// The place of this content, which is added after the others if it isn't stored yet, as that of the tile `first`. It allocates nothing
     /// if it is.
-    pub(crate) fn place(&mut self, content: &[u8], first: u64) -> Result<usize, AllocError>
+    pub(crate) fn place_given(&mut self, content: &[u8], first: u64) -> Result<usize, AllocError>
         requires ahead { self.old.ahead ≡ [] }
         requires short { length content.now < 2 ^ 32 }
         ensures placed { IfOk result

@@ -19,6 +19,7 @@ mod limit;
 mod placing;
 mod run;
 mod runs;
+mod tile_content;
 
 pub use ahead::AHEAD_BYTES;
 pub use builder::ArchiveBuilder;

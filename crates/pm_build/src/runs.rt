@@ -2,6 +2,7 @@
 ghost use Rattle.std.specs.Prelude.{◌≡◌, ◌+◌, ◌<◌, ◌≤◌, ◌^◌, ◌↔◌, ◌++◌, ◌∷◌, [], ℕ, List, length};
 ghost use Rattle.std.specs.Prelude.{Err, OnOk, OnErr, Contains, false, if◌then◌else◌, vec_capacity};
 ghost use Rattle.std.specs.Bool.{OnFalse};
+ghost use Rattle.pm_build.specs.TileContents.{IsApart, bytes_of};
 ghost use Rattle.pm_build.specs.Different.{with_content};
 ghost use Rattle.pm_build.specs.Firsts.{AreFirsts};
 ghost use Rattle.pm_build.specs.Joined.{ArePlaces, IsLast, run_views, goes_on, run_of, last_end, goes_on_last, last_grown, with_tile};
@@ -11,6 +12,7 @@ use crate::contents::Contents;
 use crate::fault::BuildFault;
 use crate::limit::MAX_ENTRIES;
 use crate::run::Run;
+use crate::tile_content::TileContent;
 
 /// Whether a tile continues a run whose content is `last`: its id follows, its content is equal, and the run has fewer than 2^32 - 1 tiles.
 fn goes_on(run: &Run, last: &[u8], id: u64, content: &[u8]) -> bool
@@ -88,22 +90,23 @@ fn begin_run(
     runs: &mut Vec<Run>,
     contents: &mut Contents,
     id: u64,
-    content: &[u8],
+    content: TileContent<'_>,
 ) -> Result<(), BuildFault>
     requires few { length runs.old.items ≤ MAX_ENTRIES }
-    requires short { length content.now < 2 ^ 32 }
+    requires apart { IsApart content contents.old.ahead }
+    requires short { length (bytes_of content contents.old.ahead) < 2 ^ 32 }
     requires places { ArePlaces contents.old.index.contents runs.old.items }
-    requires ahead { contents.old.ahead ≡ [] }
     ensures begun { OnOk result
         (run_views contents.new.index.contents runs.new.items
-        ≡ run_views contents.old.index.contents runs.old.items ++ run_of (id, content.now) ∷ []) }
-    ensures contents { OnOk result (contents.new.index.contents ≡ with_content contents.old.index.contents content.now) }
+        ≡ run_views contents.old.index.contents runs.old.items ++ run_of (id, bytes_of content.entry contents.old.ahead) ∷ []) }
+    ensures contents { OnOk result
+        (contents.new.index.contents ≡ with_content contents.old.index.contents (bytes_of content.entry contents.old.ahead)) }
     ensures firsts { OnOk result ((ts : List Tile)
-        → AreFirsts ts contents.old.index → Contains ts (id, content.now) → AreFirsts ts contents.new.index) }
+        → AreFirsts ts contents.old.index → Contains ts (id, bytes_of content.entry contents.old.ahead) → AreFirsts ts contents.new.index) }
     ensures places { OnOk result (ArePlaces contents.new.index.contents runs.new.items) }
-    ensures ahead { contents.new.ahead ≡ [] }
+    ensures ahead { OnOk result (contents.new.ahead ≡ []) }
     ensures unchanged { OnErr result (runs.new.items ≡ runs.old.items) }
-    ensures unchanged_contents { OnErr result (contents.new.index ≡ contents.old.index) }
+    ensures unchanged_contents { OnErr result (contents.new ≡ contents.old) }
     ensures few { length runs.new.items ≤ MAX_ENTRIES }
     ensures many { (result ≡ Err BuildFault.TooManyEntries) ↔ (MAX_ENTRIES ≤ length runs.old.items) }
 {
@@ -124,106 +127,39 @@ fn begin_run(
     Ok(())
 }
 
-/// Adds a run of one tile, whose content is put ahead.
-fn begin_ahead(runs: &mut Vec<Run>, contents: &mut Contents, id: u64) -> Result<(), BuildFault>
-    requires few { length runs.old.items ≤ MAX_ENTRIES }
-    requires short { length contents.old.ahead < 2 ^ 32 }
-    requires places { ArePlaces contents.old.index.contents runs.old.items }
-    ensures begun { OnOk result
-        (run_views contents.new.index.contents runs.new.items
-        ≡ run_views contents.old.index.contents runs.old.items ++ run_of (id, contents.old.ahead) ∷ []) }
-    ensures contents { OnOk result (contents.new.index.contents ≡ with_content contents.old.index.contents contents.old.ahead) }
-    ensures firsts { OnOk result ((ts : List Tile)
-        → AreFirsts ts contents.old.index → Contains ts (id, contents.old.ahead) → AreFirsts ts contents.new.index) }
-    ensures places { OnOk result (ArePlaces contents.new.index.contents runs.new.items) }
-    ensures ahead { OnOk result (contents.new.ahead ≡ []) }
-    ensures unchanged { OnErr result (runs.new.items ≡ runs.old.items) }
-    ensures unchanged_contents { OnErr result (contents.new ≡ contents.old) }
-    ensures few { length runs.new.items ≤ MAX_ENTRIES }
-    ensures many { (result ≡ Err BuildFault.TooManyEntries) ↔ (MAX_ENTRIES ≤ length runs.old.items) }
-{
-    match room_for_run(runs) {
-        Ok(()) => {}
-        Err(fault) => return Err(fault),
-    }
-    let place = match contents.place_ahead(id) {
-        Ok(place) => place,
-        Err(_) => return Err(BuildFault::Memory),
-    };
-    runs.push(Run {
-        first: id,
-        count: 1,
-        place,
-    })
-    .unwrap();
-    Ok(())
-}
-
-/// Adds a tile to the longest runs of the tiles before it. Nothing is put ahead.
+/// Adds a tile to the longest runs of the tiles before it.
 pub(crate) fn add_tile(
     runs: &mut Vec<Run>,
     contents: &mut Contents,
     id: u64,
-    content: &[u8],
+    content: TileContent<'_>,
 ) -> Result<(), BuildFault>
     requires end { last_end runs.old.items < 2 ^ 64 }
     requires few { length runs.old.items ≤ MAX_ENTRIES }
-    requires short { length content.now < 2 ^ 32 }
-    requires places { ArePlaces contents.old.index.contents runs.old.items }
-    requires ahead { contents.old.ahead ≡ [] }
-    ensures added { OnOk result
-        (run_views contents.new.index.contents runs.new.items
-        ≡ with_tile (run_views contents.old.index.contents runs.old.items) (id, content.now)) }
-    ensures contents { OnOk result (contents.new.index.contents ≡ with_content contents.old.index.contents content.now) }
-    ensures firsts { OnOk result ((ts : List Tile)
-        → AreFirsts ts contents.old.index → Contains ts (id, content.now) → AreFirsts ts contents.new.index) }
-    ensures places { OnOk result (ArePlaces contents.new.index.contents runs.new.items) }
-    ensures ahead { contents.new.ahead ≡ [] }
-    ensures unchanged { OnErr result (runs.new.items ≡ runs.old.items) }
-    ensures unchanged_contents { OnErr result (contents.new.index ≡ contents.old.index) }
-    ensures few { length runs.new.items ≤ MAX_ENTRIES }
-    ensures many { (result ≡ Err BuildFault.TooManyEntries)
-        ↔ (MAX_ENTRIES < length (with_tile (run_views contents.old.index.contents runs.old.items) (id, content.now))) }
-    ensures memory { result ≡ Err BuildFault.Memory
-        → goes_on_last (run_views contents.old.index.contents runs.old.items) (id, content.now) ≡ false }
-{
-    let last = last_content(runs, contents);
-    if join_last(runs, last, id, content) {
-        return Ok(());
-    }
-    begin_run(runs, contents, id, content)
-}
-
-/// Adds a tile whose content is put ahead to the longest runs of the tiles before it.
-pub(crate) fn add_ahead(
-    runs: &mut Vec<Run>,
-    contents: &mut Contents,
-    id: u64,
-) -> Result<(), BuildFault>
-    requires end { last_end runs.old.items < 2 ^ 64 }
-    requires few { length runs.old.items ≤ MAX_ENTRIES }
-    requires short { length contents.old.ahead < 2 ^ 32 }
+    requires apart { IsApart content contents.old.ahead }
+    requires short { length (bytes_of content contents.old.ahead) < 2 ^ 32 }
     requires places { ArePlaces contents.old.index.contents runs.old.items }
     ensures added { OnOk result
         (run_views contents.new.index.contents runs.new.items
-        ≡ with_tile (run_views contents.old.index.contents runs.old.items) (id, contents.old.ahead)) }
-    ensures contents { OnOk result (contents.new.index.contents ≡ with_content contents.old.index.contents contents.old.ahead) }
+        ≡ with_tile (run_views contents.old.index.contents runs.old.items) (id, bytes_of content.entry contents.old.ahead)) }
+    ensures contents { OnOk result
+        (contents.new.index.contents ≡ with_content contents.old.index.contents (bytes_of content.entry contents.old.ahead)) }
     ensures firsts { OnOk result ((ts : List Tile)
-        → AreFirsts ts contents.old.index → Contains ts (id, contents.old.ahead) → AreFirsts ts contents.new.index) }
+        → AreFirsts ts contents.old.index → Contains ts (id, bytes_of content.entry contents.old.ahead) → AreFirsts ts contents.new.index) }
     ensures places { OnOk result (ArePlaces contents.new.index.contents runs.new.items) }
     ensures ahead { OnOk result (contents.new.ahead ≡ []) }
     ensures unchanged { OnErr result (runs.new.items ≡ runs.old.items) }
     ensures unchanged_contents { OnErr result (contents.new ≡ contents.old) }
     ensures few { length runs.new.items ≤ MAX_ENTRIES }
-    ensures many { (result ≡ Err BuildFault.TooManyEntries)
-        ↔ (MAX_ENTRIES < length (with_tile (run_views contents.old.index.contents runs.old.items) (id, contents.old.ahead))) }
+    ensures many { (result ≡ Err BuildFault.TooManyEntries) ↔ (MAX_ENTRIES
+        < length (with_tile (run_views contents.old.index.contents runs.old.items) (id, bytes_of content.entry contents.old.ahead))) }
     ensures memory { result ≡ Err BuildFault.Memory
-        → goes_on_last (run_views contents.old.index.contents runs.old.items) (id, contents.old.ahead) ≡ false }
+        → goes_on_last (run_views contents.old.index.contents runs.old.items) (id, bytes_of content.entry contents.old.ahead) ≡ false }
 {
     let last = last_content(runs, contents);
-    if join_last(runs, last, id, contents.ahead()) {
+    if join_last(runs, last, id, contents.bytes_of(content)) {
         contents.drop_ahead();
         return Ok(());
     }
-    begin_ahead(runs, contents, id)
+    begin_run(runs, contents, id, content)
 }

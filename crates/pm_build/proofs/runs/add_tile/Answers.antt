@@ -3,11 +3,13 @@ use Rattle.std.specs.Result.{OnErr}
 use Rattle.std.proofs.lemmas.List.{take_at}
 use Rattle.std.proofs.lemmas.Result.{on_ok_weaker}
 use Rattle.pm_build.specs.declared.run.Run.{Run}
+use Rattle.pm_build.specs.TileContents.{bytes_of}
 use Rattle.pm_build.specs.Joined.{ArePlaces, IsLast, goes_on_last, last_grown, run_of, run_views}
+use Rattle.pm_build.specs.Storing.{ContentsView}
 use Rattle.pm_build.specs.Tiles.{Tile}
 use Rattle.pm_build.proofs.Adding.{joined_there, with_on, with_off, few_on, count_off}
 use Rattle.pm_build.proofs.runs.add_tile.Goals as goal
-use Rattle.pm_build.proofs.runs.add_tile.Goals.{Then-join_last, After-begin_run}
+use Rattle.pm_build.proofs.runs.add_tile.Goals.{After-begin_run}
 
 -- runs that were changed in their place
 changed : (n : ℕ) (new items : List Run) → length new ≡ n → take n (new ++ drop (length new) items) ≡ new
@@ -18,25 +20,35 @@ restored : (n : ℕ) (new items : List Run) → new ≡ items → length items �
 restored n new items same size =
     ap (λ (xs : List Run). take n (xs ++ drop (length xs) items)) same ∙ take_at items (drop (length items) items) n size
 
-joins : (c : Then-join_last) → goes_on_last (run_views c.args.contents.now.index.contents c.args.runs.now.items) (c.args.id, c.args.content.now) ≡ true
+joins : (c : goal.After-drop_ahead)
+    → goes_on_last (run_views c.args.contents.now.index.contents c.args.runs.now.items)
+    (c.args.id, bytes_of c.args.content c.args.contents.now.ahead) ≡ true
 joins c =
     let cs = c.args.contents.now.index.contents in
-    let t : Tile = (c.args.id, c.args.content.now) in
+    let t : Tile = (c.args.id, bytes_of c.args.content c.args.contents.now.ahead) in
     let value = c.deref_mut.ensures.value in
     let last = subst (λ (rs : List Run). IsLast cs rs c.last_content-last.result.now) (c.deref.ensures.value ∙ sym value) c.last_content-last.ensures in
-    ap (λ (rs : List Run). goes_on_last (run_views cs rs) t) (sym value) ∙ sym (c.if-join_last.ensures.joins cs last)
+    ap (λ (rs : List Run). goes_on_last (run_views cs rs) t) (sym value)
+    ∙ ap (λ (bytes : List ℕ). goes_on_last (run_views cs c.deref_mut.result.now) (c.args.id, bytes)) (sym c.bytes_of.ensures)
+    ∙ sym (c.if-join_last.ensures.joins cs last)
 
-begins : (c : After-begin_run) → goes_on_last (run_views c.args.contents.now.index.contents c.args.runs.now.items) (c.args.id, c.args.content.now) ≡ false
+begins : (c : After-begin_run)
+    → goes_on_last (run_views c.args.contents.now.index.contents c.args.runs.now.items)
+    (c.args.id, bytes_of c.args.content c.args.contents.now.ahead) ≡ false
 begins c =
     let cs = c.args.contents.now.index.contents in
-    let t : Tile = (c.args.id, c.args.content.now) in
+    let t : Tile = (c.args.id, bytes_of c.args.content c.args.contents.now.ahead) in
     let value = c.deref_mut.ensures.value in
     let last = subst (λ (rs : List Run). IsLast cs rs c.last_content-last.result.now) (c.deref.ensures.value ∙ sym value) c.last_content-last.ensures in
-    ap (λ (rs : List Run). goes_on_last (run_views cs rs) t) (sym value) ∙ sym (c.if-join_last.ensures.joins cs last)
+    ap (λ (rs : List Run). goes_on_last (run_views cs rs) t) (sym value)
+    ∙ ap (λ (bytes : List ℕ). goes_on_last (run_views cs c.deref_mut.result.now) (c.args.id, bytes)) (sym c.bytes_of.ensures)
+    ∙ sym (c.if-join_last.ensures.joins cs last)
 
 pub returns-then-join_last-clause-contents : goal.returns-then-join_last-clause-contents
 returns-then-join_last-clause-contents c =
-    joined_there c.args.contents.now.index.contents c.args.runs.now.items (c.args.id, c.args.content.now) c.requires.places (joins c)
+    ap (λ (v : ContentsView). v.index.contents) c.drop_ahead.ensures
+    ∙ joined_there c.args.contents.now.index.contents c.args.runs.now.items (c.args.id, bytes_of c.args.content c.args.contents.now.ahead)
+    c.requires.places (joins c)
 
 pub returns-then-join_last-clause-added : goal.returns-then-join_last-clause-added
 returns-then-join_last-clause-added c =
@@ -46,8 +58,10 @@ returns-then-join_last-clause-added c =
     let value = c.deref_mut.ensures.value in
     let size : length new ≡ c.args.runs.now.len =
     omega (arith, c.join_last.ensures.count, ap (λ (rs : List Run). length rs) value, c.args.runs.now.ok) in
-    ap (λ (rs : List Run). run_views cs rs) (changed c.args.runs.now.len new items size) ∙ c.if-join_last.ensures.runs cs
-    ∙ ap (λ (rs : List Run). last_grown (run_views cs rs)) value ∙ sym (with_on (run_views cs items) (c.args.id, c.args.content.now) (joins c))
+    ap (λ (v : ContentsView). run_views v.index.contents (take c.args.runs.now.len (new ++ drop (length new) items))) c.drop_ahead.ensures
+    ∙ ap (λ (rs : List Run). run_views cs rs) (changed c.args.runs.now.len new items size) ∙ c.if-join_last.ensures.runs cs
+    ∙ ap (λ (rs : List Run). last_grown (run_views cs rs)) value ∙ sym
+    (with_on (run_views cs items) (c.args.id, bytes_of c.args.content c.args.contents.now.ahead) (joins c))
 
 pub returns-then-join_last-clause-places : goal.returns-then-join_last-clause-places
 returns-then-join_last-clause-places c =
@@ -56,8 +70,10 @@ returns-then-join_last-clause-places c =
     let value = c.deref_mut.ensures.value in
     let size : length new ≡ c.args.runs.now.len =
     omega (arith, c.join_last.ensures.count, ap (λ (rs : List Run). length rs) value, c.args.runs.now.ok) in
-    subst (λ (rs : List Run). ArePlaces cs rs) (sym (changed c.args.runs.now.len new c.args.runs.now.items size))
-    (c.if-join_last.ensures.places cs (subst (λ (rs : List Run). ArePlaces cs rs) (sym value) c.requires.places))
+    subst (λ (v : ContentsView). ArePlaces v.index.contents (take c.args.runs.now.len (new ++ drop (length new) c.args.runs.now.items)))
+    (sym c.drop_ahead.ensures)
+    (subst (λ (rs : List Run). ArePlaces cs rs) (sym (changed c.args.runs.now.len new c.args.runs.now.items size))
+    (c.if-join_last.ensures.places cs (subst (λ (rs : List Run). ArePlaces cs rs) (sym value) c.requires.places)))
 
 pub returns-then-join_last-clause-few : goal.returns-then-join_last-clause-few
 returns-then-join_last-clause-few c =
@@ -68,7 +84,8 @@ returns-then-join_last-clause-few c =
 
 pub returns-then-join_last-clause-many : goal.returns-then-join_last-clause-many
 returns-then-join_last-clause-many c =
-    let few = few_on c.args.contents.now.index.contents c.args.runs.now.items (c.args.id, c.args.content.now) 131072 (joins c) c.requires.few in (
+    let t : Tile = (c.args.id, bytes_of c.args.content c.args.contents.now.ahead) in
+    let few = few_on c.args.contents.now.index.contents c.args.runs.now.items t 131072 (joins c) c.requires.few in (
       λ bad. absurd (cc),
       λ more. absurd (omega (arith, few, more)),
     )
@@ -98,7 +115,7 @@ pub returns-clause-added : goal.returns-clause-added
 returns-clause-added c =
     let cs = c.args.contents.now.index.contents in
     let items = c.args.runs.now.items in
-    let t : Tile = (c.args.id, c.args.content.now) in
+    let t : Tile = (c.args.id, bytes_of c.args.content c.args.contents.now.ahead) in
     let same = c.if-join_last.ensures.unchanged ∙ c.deref_mut.ensures.value in
     let stays = restored c.args.runs.now.len c.join_last.new.runs items same (omega (arith, c.args.runs.now.ok)) in
     on_ok_weaker c.begin_run.result
@@ -111,7 +128,7 @@ returns-clause-many c =
     let same = c.if-join_last.ensures.unchanged ∙ c.deref_mut.ensures.value in
     let stays = restored c.args.runs.now.len c.join_last.new.runs items same (omega (arith, c.args.runs.now.ok)) in
     let size = ap (λ (rs : List Run). length rs) stays in
-    let count = count_off c.args.contents.now.index.contents items (c.args.id, c.args.content.now) (begins c) in (
+    let count = count_off c.args.contents.now.index.contents items (c.args.id, bytes_of c.args.content c.args.contents.now.ahead) (begins c) in (
       λ told. omega (arith, size, count, c.begin_run.ensures.many.0 told),
       λ more. c.begin_run.ensures.many.1 (omega (arith, size, count, more)),
     )

@@ -8,8 +8,8 @@ use Rattle.pm_build.proofs.Entries.{end_low}
 use Rattle.pm_build.proofs.Keeping.{IsAdded, added, too_many}
 use Rattle.pm_build.proofs.builder.ArchiveBuilder.add_ahead.Goals as goal
 
-pub add_ahead-requires-clause-end : goal.add_ahead-requires-clause-end
-add_ahead-requires-clause-end c =
+pub add_tile-requires-clause-end : goal.add_tile-requires-clause-end
+add_tile-requires-clause-end c =
     let inside = c.self.inside in
     omega (
       arith,
@@ -39,12 +39,12 @@ abbrev view_with : List ℕ → List Tile → BuilderView
 view_with ahead tiles = record { tiles = tiles; ahead = ahead }
 
 is_added : (c : goal.After-self-1)
-    → IsAdded c.self.inside.contents.index c.self.inside.runs.items (c.args.id, c.self.inside.contents.ahead) c.add_ahead.new.contents.index
-    c.add_ahead.new.runs.items (c.self.inside.addressed + 1)
+    → IsAdded c.self.inside.contents.index c.self.inside.runs.items (c.args.id, c.self.inside.contents.ahead) c.add_tile.new.contents.index
+    c.add_tile.new.runs.items (c.self.inside.addressed + 1)
 is_added c =
     let t : Tile = (c.args.id, c.self.inside.contents.ahead) in
     let inside = c.self.inside in
-    added inside.contents.index c.add_ahead.new.contents.index inside.runs.items c.add_ahead.new.runs.items inside.addressed t c.self.invariant
+    added inside.contents.index c.add_tile.new.contents.index inside.runs.items c.add_tile.new.runs.items inside.addressed t c.self.invariant
     (subst (λ (v : BuilderView). CanAdd v.tiles (c.args.id, v.ahead)) (sym c.self.view_is) c.requires) c.in-Ok.ensures.added c.in-Ok.ensures.contents
     c.in-Ok.ensures.firsts c.in-Ok.ensures.places c.in-Ok.ensures.few
 
@@ -55,7 +55,7 @@ pub returns-clause-added : goal.returns-clause-added
 returns-clause-added c =
     let now = c.args.self.now in
     let tiles = (is_added c).tiles_are ∙ ap (λ (v : BuilderView). v.tiles ++ (c.args.id, v.ahead) ∷ []) c.self.view_is in
-    ap (view_with c.add_ahead.new.contents.ahead) tiles ∙ ap (λ (xs : List ℕ). view_with xs (now.tiles ++ (c.args.id, now.ahead) ∷ [])) c.in-Ok.ensures.ahead
+    ap (view_with c.add_tile.new.contents.ahead) tiles ∙ ap (λ (xs : List ℕ). view_with xs (now.tiles ++ (c.args.id, now.ahead) ∷ [])) c.in-Ok.ensures.ahead
 
 pub returns-clause-few : goal.returns-clause-few
 returns-clause-few c = (is_added c).few
