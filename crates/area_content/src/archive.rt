@@ -19,8 +19,9 @@ use crate::collected::{Collected, LARGE_TILE_BYTES, Waiting};
 use crate::content::sectors_for;
 use crate::counting::count_tile;
 use crate::fault::ContentFault;
+use crate::frame::{AreaFrame, MapThen};
 use crate::spent::{SpentContent, spend};
-use feature_store::{Making, Moment, Store, Tiles};
+use feature_store::{Making, Tiles};
 use pm_build::{ArchiveBuilder, BuiltArchive};
 use std::alloc::{AllocError, Global};
 
@@ -35,17 +36,11 @@ pub(crate) enum Progress {
     Over,
 }
 
-/// Makes a part of the next tile of a moment, for an area of `area` sectors. `store` is the map as it is now. A tile too large for an archive
-/// entry is larger than every area.
-fn next_short(
-    tiles: &mut Tiles,
-    store: &Store,
-    moment: &Moment,
-    area: u64,
-) -> Result<Making, ContentFault>
-    requires same { moment.now.features ≡ tiles.old.features }
-    requires there { moment.now.lost ≡ false }
-    requires as_of { IsAsOf moment.now store.now.features }
+/// Makes a part of the next tile of a moment, for an area of `area` sectors. A tile too large for an archive entry is larger than every area.
+fn next_short(tiles: &mut Tiles, map: MapThen<'_>, area: u64) -> Result<Making, ContentFault>
+    requires same { map.moment.now.features ≡ tiles.old.features }
+    requires there { map.moment.now.lost ≡ false }
+    requires as_of { IsAsOf map.moment.now map.store.now.features }
     requires area { area < 2 ^ 23 }
     ensures map { tiles.new.features ≡ tiles.old.features }
     ensures part { result ≡ Ok Part → (tiles.old.from ≤ tiles.new.from) × ShowsNothing tiles.old.features tiles.old.from tiles.new.from }
@@ -55,7 +50,7 @@ fn next_short(
     ensures fault { IfErr result (λ fault. (before : List Tile) (metadata : List ℕ) → AreAdded tiles.old.features tiles.old.from before
         → IsContentFault tiles.old.features metadata area fault) }
 {
-    let tile = match tiles.next(store, moment) {
+    let tile = match tiles.next(map.store, map.moment) {
         Ok(Making::Whole(tile)) => tile,
         Ok(Making::Part) => return Ok(Making::Part),
         Ok(Making::Over) => return Ok(Making::Over),
@@ -70,40 +65,37 @@ fn next_short(
     Ok(Making::Whole(tile))
 }
 
-/// Adds the last tile that was made to its archive. The first `put` bytes of its content are ahead: none if tiles are counted. `store` is the map
-/// as it is now, `text` the snapshot of the moment. A long list that is of no use any more is put in `spent`.
+/// Adds the last tile that was made to its archive. The first `put` bytes of its content are ahead: none if tiles are counted. A long list that is
+/// of no use any more is put in `spent`.
 fn add_tile(
     collected: &mut Collected,
     spent: &mut Option<SpentContent>,
     tile: feature_store::Tile,
     put: usize,
     tiles: &mut Tiles,
-    store: &Store,
-    moment: &Moment,
-    text: &[u8],
-    metadata: &[u8],
-    area: u64,
+    map: MapThen<'_>,
+    frame: AreaFrame<'_>,
 ) -> Result<(), ContentFault>
-    requires same { moment.now.features ≡ tiles.old.features }
-    requires there { moment.now.lost ≡ false }
-    requires as_of { IsAsOf moment.now store.now.features }
-    requires collected { AreCollected tiles.old.features metadata.now area tile.0 collected.old }
+    requires same { map.moment.now.features ≡ tiles.old.features }
+    requires there { map.moment.now.lost ≡ false }
+    requires as_of { IsAsOf map.moment.now map.store.now.features }
+    requires collected { AreCollected tiles.old.features frame.metadata.now frame.area tile.0 collected.old }
     requires last { IsLastMade tiles.old.features tiles.old.from (tile.0, tile.1.items) }
     requires inside { put ≤ length tile.1.items }
     requires ahead { collected.old.kept.ahead ≡ take put tile.1.items }
     requires counted { IfSome collected.old.counted (λ counted. put ≡ 0) }
-    requires snapshot { text.now ≡ snapshot tiles.old.features }
+    requires snapshot { frame.text.now ≡ snapshot tiles.old.features }
     ensures unchanged { tiles.new ≡ tiles.old }
-    ensures collected { OnOk result (AreCollected tiles.old.features metadata.now area tiles.old.from collected.new) }
+    ensures collected { OnOk result (AreCollected tiles.old.features frame.entry.metadata.now frame.entry.area tiles.old.from collected.new) }
     ensures ahead { OnOk result (collected.new.kept.ahead ≡ []) }
     ensures waiting { OnOk result (collected.new.waiting ≡ collected.old.waiting) }
     ensures count { OnOk result (length (tiles_of collected.new) ≡ length (tiles_of collected.old) + 1) }
-    ensures fault { IfErr result (IsContentFault tiles.old.features metadata.now area) }
+    ensures fault { IfErr result (IsContentFault tiles.old.features frame.entry.metadata.now frame.entry.area) }
 {
     let (id, content) = tile;
     match &mut collected.counted {
-        Some(counter) => count_tile(counter, id, content, tiles, store, moment),
-        None => match collected.keep(id, &content, put, text, metadata, area) {
+        Some(counter) => count_tile(counter, id, content, tiles, map),
+        None => match collected.keep(id, &content, put, frame) {
             Ok(contents) => {
                 spend(spent, content, contents);
                 Ok(())
@@ -114,30 +106,26 @@ fn add_tile(
 }
 
 /// Makes a part of the next tile of a moment, and at its last part adds the tile to its archive. A large tile waits: each step after it puts a
-/// part of its content ahead, and the last of them puts the rest ahead and adds it. `store` is the map as it is now, `text` the snapshot of the
-/// moment. A long list that is of no use any more is put in `spent`.
+/// part of its content ahead, and the last of them puts the rest ahead and adds it. A long list that is of no use any more is put in `spent`.
 pub(crate) fn make_next(
     tiles: &mut Tiles,
     collected: &mut Collected,
     spent: &mut Option<SpentContent>,
-    store: &Store,
-    moment: &Moment,
-    text: &[u8],
-    metadata: &[u8],
-    area: u64,
+    map: MapThen<'_>,
+    frame: AreaFrame<'_>,
 ) -> Result<Progress, ContentFault>
-    requires same { moment.now.features ≡ tiles.old.features }
-    requires there { moment.now.lost ≡ false }
-    requires as_of { IsAsOf moment.now store.now.features }
-    requires going { AreGoing tiles.old.features metadata.now area tiles.old.from collected.old }
-    requires snapshot { text.now ≡ snapshot tiles.old.features }
-    requires area { area < 2 ^ 23 }
+    requires same { map.moment.now.features ≡ tiles.old.features }
+    requires there { map.moment.now.lost ≡ false }
+    requires as_of { IsAsOf map.moment.now map.store.now.features }
+    requires going { AreGoing tiles.old.features frame.metadata.now frame.area tiles.old.from collected.old }
+    requires snapshot { frame.text.now ≡ snapshot tiles.old.features }
+    requires area { frame.area < 2 ^ 23 }
     ensures map { tiles.new.features ≡ tiles.old.features }
-    ensures going { IfOk result (IfGoing (AreGoing tiles.old.features metadata.now area tiles.new.from collected.new)) }
+    ensures going { IfOk result (IfGoing (AreGoing tiles.old.features frame.entry.metadata.now frame.entry.area tiles.new.from collected.new)) }
     ensures ahead { IfOk result (IfGoing (steps_ahead collected.new.waiting tiles.new.ahead < steps_ahead collected.old.waiting tiles.old.ahead)) }
     ensures count { IfOk result (λ progress. length (tiles_of collected.new) ≡ length (tiles_of collected.old) + tiles_in progress) }
-    ensures made { result ≡ Ok progress.Over → AreMade tiles.old.features metadata.now area collected.new }
-    ensures fault { IfErr result (IsContentFault tiles.old.features metadata.now area) }
+    ensures made { result ≡ Ok progress.Over → AreMade tiles.old.features frame.entry.metadata.now frame.entry.area collected.new }
+    ensures fault { IfErr result (IsContentFault tiles.old.features frame.entry.metadata.now frame.entry.area) }
 {
     if let Some(waiting) = collected.waiting.take() {
         if waiting.parts > 0 {
@@ -151,14 +139,12 @@ pub(crate) fn make_next(
             put,
             parts: _,
         } = waiting;
-        return match add_tile(
-            collected, spent, tile, put, tiles, store, moment, text, metadata, area,
-        ) {
+        return match add_tile(collected, spent, tile, put, tiles, map, frame) {
             Ok(()) => Ok(Progress::Tile),
             Err(fault) => Err(fault),
         };
     }
-    let tile = match next_short(tiles, store, moment, area) {
+    let tile = match next_short(tiles, map, frame.area) {
         Ok(Making::Whole(tile)) => tile,
         Ok(Making::Part) => return Ok(Progress::Part),
         Ok(Making::Over) => return Ok(Progress::Over),
@@ -168,9 +154,7 @@ pub(crate) fn make_next(
         collected.let_wait(tile);
         return Ok(Progress::Part);
     }
-    match add_tile(
-        collected, spent, tile, 0, tiles, store, moment, text, metadata, area,
-    ) {
+    match add_tile(collected, spent, tile, 0, tiles, map, frame) {
         Ok(()) => Ok(Progress::Tile),
         Err(fault) => Err(fault),
     }

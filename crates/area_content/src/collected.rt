@@ -10,6 +10,7 @@ ghost use Rattle.sector_disk.specs.declared.disk.TheConstants.{SECTOR_BYTES};
 
 use crate::content::sectors_for;
 use crate::fault::ContentFault;
+use crate::frame::AreaFrame;
 use feature_store::Tile;
 use pm_build::{AHEAD_BYTES, ArchiveBuilder, ArchiveCounter, BuildFault};
 use pm_header::HEADER_BYTES;
@@ -162,8 +163,8 @@ impl Collected {
         Ok(spent)
     }
 
-    /// Adds a tile, whose content is kept unless with it the snapshot `text` and an archive no longer fit in an area of `area` sectors. The first
-    /// `put` bytes of its content are ahead. Returns the list of contents that were kept until then and are of no use any more, or an empty one.
+    /// Adds a tile, whose content is kept unless with it the snapshot and an archive no longer fit in the area. The first `put` bytes of its content
+    /// are ahead. Returns the list of contents that were kept until then and are of no use any more, or an empty one.
     ///
     /// # Errors
     ///
@@ -173,9 +174,7 @@ impl Collected {
         id: u64,
         content: &[u8],
         put: usize,
-        text: &[u8],
-        metadata: &[u8],
-        area: u64,
+        frame: AreaFrame<'_>,
     ) -> Result<Vec<u8>, ContentFault>
         requires none { self.old.counted ≡ None }
         requires inside { put ≤ length content.now }
@@ -184,17 +183,19 @@ impl Collected {
         ensures added { OnOk result (tiles_of self.new ≡ self.old.kept.tiles ++ (id, content.now) ∷ []) }
         ensures ahead { OnOk result (self.new.kept.ahead ≡ []) }
         ensures few { OnOk result (AreFew (tiles_of self.new)) }
-        ensures within { OnOk result ((m : FeatureMap) → text.now ≡ snapshot m → AreWithin m metadata.now area self.new.kept.tiles) }
-        ensures beyond { OnOk result ((m : FeatureMap) → text.now ≡ snapshot m → AreBeyondIf m metadata.now area self.new.counted) }
+        ensures within { OnOk result ((m : FeatureMap) → frame.entry.text.now ≡ snapshot m
+            → AreWithin m frame.entry.metadata.now frame.entry.area self.new.kept.tiles) }
+        ensures beyond { OnOk result ((m : FeatureMap) → frame.entry.text.now ≡ snapshot m
+            → AreBeyondIf m frame.entry.metadata.now frame.entry.area self.new.counted) }
         ensures waiting { OnOk result (self.new.waiting ≡ self.old.waiting) }
         ensures fault { IfErr result (λ fault. (m : FeatureMap) → (AreTooMany (self.old.kept.tiles ++ (id, content.now) ∷ []) → HasManyTiles m)
-            → IsContentFault m metadata.now area fault) }
+            → IsContentFault m frame.entry.metadata.now frame.entry.area fault) }
     {
         match self.add(id, content, put) {
             Ok(()) => {}
             Err(fault) => return Err(to_content_fault(fault)),
         }
-        if least_sectors(&self.kept, text, metadata) <= area {
+        if least_sectors(&self.kept, frame.text, frame.metadata) <= frame.area {
             return Ok(Vec::new(self.alloc));
         }
         match self.count() {

@@ -11,7 +11,8 @@ ghost use Rattle.area_content.specs.Faults.{HasManyTiles, IsContentFault};
 
 use crate::collected::to_content_fault;
 use crate::fault::ContentFault;
-use feature_store::{Moment, Store, Tiles};
+use crate::frame::MapThen;
+use feature_store::Tiles;
 use pm_build::ArchiveCounter;
 use std::alloc::AllocError;
 
@@ -21,18 +22,17 @@ fn is_equal(
     place: usize,
     content: &[u8],
     tiles: &mut Tiles,
-    store: &Store,
-    moment: &Moment,
+    map: MapThen<'_>,
 ) -> Result<bool, AllocError>
     requires place { place < length (contents_of counter.now) }
     requires of_map { All (IsTile tiles.old.features) counter.now }
-    requires same { moment.now.features ≡ tiles.old.features }
-    requires there { moment.now.lost ≡ false }
-    requires as_of { IsAsOf moment.now store.now.features }
+    requires same { map.moment.now.features ≡ tiles.old.features }
+    requires there { map.moment.now.lost ≡ false }
+    requires as_of { IsAsOf map.moment.now map.store.now.features }
     ensures equal { IfOk result (λ is. IsTrue is ↔ (content_at (contents_of counter.now) place ≡ content.now)) }
     ensures unchanged { tiles.new ≡ tiles.old }
 {
-    let tile = tiles.again(store, moment, counter.first_with(place))?;
+    let tile = tiles.again(map.store, map.moment, counter.first_with(place))?;
     Ok(tile.as_slice() == content)
 }
 
@@ -41,19 +41,18 @@ fn place_of_equal(
     counter: &ArchiveCounter,
     content: &[u8],
     tiles: &mut Tiles,
-    store: &Store,
-    moment: &Moment,
+    map: MapThen<'_>,
 ) -> Result<Option<usize>, AllocError>
     requires of_map { All (IsTile tiles.old.features) counter.now }
-    requires same { moment.now.features ≡ tiles.old.features }
-    requires there { moment.now.lost ≡ false }
-    requires as_of { IsAsOf moment.now store.now.features }
+    requires same { map.moment.now.features ≡ tiles.old.features }
+    requires there { map.moment.now.lost ≡ false }
+    requires as_of { IsAsOf map.moment.now map.store.now.features }
     ensures place { IfOk result (λ place. IsPlaceOf counter.now content.now place) }
     ensures unchanged { tiles.new ≡ tiles.old }
 {
     let mut next = counter.last_like(content);
     while let Some(place) = next {
-        if is_equal(counter, place, content, tiles, store, moment)? {
+        if is_equal(counter, place, content, tiles, map)? {
             return Ok(Some(place));
         }
         next = counter.like_before(place);
@@ -61,7 +60,7 @@ fn place_of_equal(
     Ok(None)
 }
 
-/// Counts a tile of a moment. `store` is the map as it is now.
+/// Counts a tile of a moment.
 ///
 /// # Errors
 ///
@@ -71,14 +70,13 @@ pub(crate) fn count_tile(
     id: u64,
     content: Vec<u8>,
     tiles: &mut Tiles,
-    store: &Store,
-    moment: &Moment,
+    map: MapThen<'_>,
 ) -> Result<(), ContentFault>
     requires can { CanAdd counter.old (id, content.items) }
     requires of_map { All (IsTile tiles.old.features) counter.old }
-    requires same { moment.now.features ≡ tiles.old.features }
-    requires there { moment.now.lost ≡ false }
-    requires as_of { IsAsOf moment.now store.now.features }
+    requires same { map.moment.now.features ≡ tiles.old.features }
+    requires there { map.moment.now.lost ≡ false }
+    requires as_of { IsAsOf map.moment.now map.store.now.features }
     ensures added { OnOk result (counter.new ≡ counter.old ++ (id, content.items) ∷ []) }
     ensures few { OnOk result (AreFew counter.new) }
     ensures unchanged { tiles.new ≡ tiles.old }
@@ -88,7 +86,7 @@ pub(crate) fn count_tile(
     if counter.join(id, &content) {
         return Ok(());
     }
-    let equal = match place_of_equal(counter, &content, tiles, store, moment) {
+    let equal = match place_of_equal(counter, &content, tiles, map) {
         Ok(equal) => equal,
         Err(_) => return Err(ContentFault::Memory),
     };

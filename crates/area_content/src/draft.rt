@@ -11,9 +11,10 @@ ghost use Rattle.area_content.specs.Faults.{IsBuiltFor, IsContentFault, IsShort}
 ghost use Rattle.area_content.specs.Room.{AreBeyond};
 
 use crate::archive::{Progress, archive_of, make_next};
-use crate::collected::Collected;
+use crate::collected::{Collected, Waiting};
 use crate::content::{AreaContent, sectors_for, within};
 use crate::fault::ContentFault;
+use crate::frame::{AreaFrame, MapThen};
 use crate::spent::SpentContent;
 use feature_store::{Moment, MomentReader, Store, Tiles};
 use pm_build::{ArchiveBuilder, ArchiveCounter};
@@ -63,6 +64,9 @@ impl Model for ContentDraft {
 
     ghost invariant = { IsDraft };
 }
+
+/// Lets go what is of no use any more once the tiles are made. How its parts go is proved here alone.
+fn let_go(_tiles: Tiles, _waiting: Option<Waiting>, _spent: Option<SpentContent>) {}
 
 /// The fault of all tiles of a map, with the snapshot `text`, that don't fit in an area of `area` sectors.
 fn full_of(counter: &ArchiveCounter, text: &[u8], metadata: &[u8], area: u64) -> ContentFault
@@ -166,15 +170,17 @@ impl ContentDraft {
     {
         self.stage = Stage::Failed;
         self.spent = self.spent.take().and_then(SpentContent::shrunk);
+        let frame = AreaFrame {
+            text: &self.text,
+            metadata: &self.metadata,
+            area: self.area,
+        };
         let result = make_next(
             &mut self.tiles,
             &mut self.collected,
             &mut self.spent,
-            store,
-            moment,
-            &self.text,
-            &self.metadata,
-            self.area,
+            MapThen { store, moment },
+            frame,
         );
         match result {
             Ok(Progress::Part) => {
@@ -194,6 +200,28 @@ impl ContentDraft {
         }
     }
 
+    /// Lets it go. How its parts go is proved here, and not in each function that has a draft.
+    pub fn end(self) {
+        let ContentDraft {
+            text: _,
+            metadata: _,
+            tiles,
+            collected,
+            spent,
+            made: _,
+            area: _,
+            stage: _,
+            alloc: _,
+        } = self;
+        let Collected {
+            kept: _,
+            counted: _,
+            waiting,
+            alloc: _,
+        } = collected;
+        let_go(tiles, waiting, spent);
+    }
+
     /// The content, once the tiles are made.
     ///
     /// # Errors
@@ -209,9 +237,9 @@ impl ContentDraft {
         let ContentDraft {
             text,
             metadata,
-            tiles: _,
+            tiles,
             collected,
-            spent: _,
+            spent,
             made: _,
             area,
             stage: _,
@@ -220,9 +248,10 @@ impl ContentDraft {
         let Collected {
             kept,
             counted,
-            waiting: _,
+            waiting,
             alloc: _,
         } = collected;
+        let_go(tiles, waiting, spent);
         match counted {
             Some(counter) => Err(full_of(&counter, &text, &metadata, area)),
             None => content_with(alloc, kept, text, &metadata, area),

@@ -8,6 +8,7 @@ mod content;
 mod counting;
 mod draft;
 mod fault;
+mod frame;
 mod making;
 mod spent;
 

@@ -5,7 +5,7 @@ ghost use Rattle.feature_store.specs.Store.{snapshot};
 ghost use Rattle.pm_metadata.specs.Archive.{IsMetadata};
 ghost use Rattle.area_content.specs.Content.{sectors_taken};
 ghost use Rattle.area_content.specs.Faults.{IsBuiltFor, IsContentFault};
-ghost use Rattle.area_content.specs.declared.draft.Stage.TheVariants.{Going, Made};
+ghost use Rattle.area_content.specs.declared.draft.Stage.TheVariants.{Going};
 
 use crate::content::AreaContent;
 use crate::draft::ContentDraft;
@@ -13,23 +13,31 @@ use crate::fault::ContentFault;
 use feature_store::{Moment, MomentReader, Store};
 use std::alloc::{AllocError, Global};
 
-/// Makes the tiles of a draft, one after the other.
-fn make_all(draft: &mut ContentDraft, store: &Store, moment: &Moment) -> Result<(), ContentFault>
-    requires stage { draft.old.stage ≡ Going }
-    requires same { moment.now.features ≡ draft.old.features }
-    requires there { moment.now.lost ≡ false }
-    requires as_of { IsAsOf moment.now store.now.features }
-    ensures features { draft.new.features ≡ draft.old.features }
-    ensures metadata { draft.new.metadata ≡ draft.old.metadata }
-    ensures area { draft.new.area ≡ draft.old.area }
-    ensures made { OnOk result (draft.new.stage ≡ Made) }
-    ensures fault { IfErr result (IsContentFault draft.old.features draft.old.metadata draft.old.area) }
-{
-    loop {
-        match draft.step(store, moment) {
-            Ok(true) => {}
-            Ok(false) => return Ok(()),
-            Err(fault) => return Err(fault),
+impl ContentDraft {
+    ghost use Rattle.area_content.specs.declared.draft.Stage.TheVariants.{Made};
+
+    /// Makes the tiles that are left of the moment, one after the other, `store` being the map as it is now.
+    ///
+    /// # Errors
+    ///
+    /// Those of `step`. The draft is of no use then.
+    pub fn make_all(&mut self, store: &Store, moment: &Moment) -> Result<(), ContentFault>
+        requires stage { self.old.stage ≡ Going }
+        requires same { moment.now.features ≡ self.old.features }
+        requires there { moment.now.lost ≡ false }
+        requires as_of { IsAsOf moment.now store.now.features }
+        ensures features { self.new.features ≡ self.old.features }
+        ensures metadata { self.new.metadata ≡ self.old.metadata }
+        ensures area { self.new.area ≡ self.old.area }
+        ensures made { OnOk result (self.new.stage ≡ Made) }
+        ensures fault { IfErr result (IsContentFault self.old.features self.old.metadata self.old.area) }
+    {
+        loop {
+            match self.step(store, moment) {
+                Ok(true) => {}
+                Ok(false) => return Ok(()),
+                Err(fault) => return Err(fault),
+            }
         }
     }
 }
@@ -86,8 +94,11 @@ pub fn content_of(
         Ok(draft) => draft,
         Err(_) => return Err(ContentFault::Memory),
     };
-    match make_all(&mut draft, store, &moment) {
+    match draft.make_all(store, &moment) {
         Ok(()) => draft.finish(),
-        Err(fault) => Err(fault),
+        Err(fault) => {
+            draft.end();
+            Err(fault)
+        }
     }
 }

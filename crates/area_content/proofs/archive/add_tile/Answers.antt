@@ -7,7 +7,7 @@ pub count_tile-requires-clause-can : goal.count_tile-requires-clause-can
 count_tile-requires-clause-can c =
     let m = c.args.tiles.now.features in
     let t : Tile = (c.args.tile.0, c.args.tile.1.items) in
-    let added = counted_added m c.args.metadata.now c.args.area t.0 c.args.collected.now c.requires.collected c.in-Some.counter c.in-Some.is in
+    let added = counted_added m c.args.frame.metadata.now c.args.frame.area t.0 c.args.collected.now c.requires.collected c.in-Some.counter c.in-Some.is in
     can_add m t.0 c.in-Some.counter t added (next_of_last m c.args.tiles.now.from t c.requires.last) c.requires.last.short
 
 pub count_tile-requires-clause-of_map : goal.count_tile-requires-clause-of_map
@@ -15,22 +15,22 @@ count_tile-requires-clause-of_map c =
     let m = c.args.tiles.now.features in
     let id = c.args.tile.0 in
     added_of_map m id c.in-Some.counter
-    (counted_added m c.args.metadata.now c.args.area id c.args.collected.now c.requires.collected c.in-Some.counter c.in-Some.is)
+    (counted_added m c.args.frame.metadata.now c.args.frame.area id c.args.collected.now c.requires.collected c.in-Some.counter c.in-Some.is)
 
 pub keep-requires-clause-can : goal.keep-requires-clause-can
 keep-requires-clause-can c =
     let m = c.args.tiles.now.features in
     let t : Tile = (c.args.tile.0, c.args.tile.1.items) in
     let collected = c.args.collected.now in
-    let added = kept_added m c.args.metadata.now c.args.area t.0 collected c.requires.collected c.in-None.is in
+    let added = kept_added m c.args.frame.metadata.now c.args.frame.area t.0 collected c.requires.collected c.in-None.is in
     rw c.deref.ensures.value (can_add m t.0 collected.kept.tiles t added (next_of_last m c.args.tiles.now.from t c.requires.last) c.requires.last.short)
 
 pub returns-in-Some-clause-collected : goal.returns-in-Some-clause-collected
 returns-in-Some-clause-collected c =
     let m = c.args.tiles.now.features in
     let from = c.args.tiles.now.from in
-    let metadata = c.args.metadata.now in
-    let area = c.args.area in
+    let metadata = c.args.frame.metadata.now in
+    let area = c.args.frame.area in
     let t : Tile = (c.args.tile.0, c.args.tile.1.items) in
     let are = c.requires.collected in
     let collected = c.args.collected.now in
@@ -47,8 +47,8 @@ pub returns-in-Ok-clause-collected : goal.returns-in-Ok-clause-collected
 returns-in-Ok-clause-collected c =
     let m = c.args.tiles.now.features in
     let from = c.args.tiles.now.from in
-    let metadata = c.args.metadata.now in
-    let area = c.args.area in
+    let metadata = c.args.frame.metadata.now in
+    let area = c.args.frame.area in
     let t : Tile = (c.args.tile.0, c.args.tile.1.items) in
     let collected = c.args.collected.now in
     let last = c.requires.last in

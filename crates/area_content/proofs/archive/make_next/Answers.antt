@@ -9,8 +9,8 @@ pub returns-in-Ok-Part-clause-going : goal.returns-in-Ok-Part-clause-going
 returns-in-Ok-Part-clause-going c =
     let m = c.args.tiles.now.features in
     let from = c.args.tiles.now.from in
-    let metadata = c.args.metadata.now in
-    let area = c.args.area in
+    let metadata = c.args.frame.metadata.now in
+    let area = c.args.frame.area in
     let old = c.args.collected.now in
     let now = c.take.new.self in
     let are = none_waited m metadata area from old c.requires.going c.take.result now c.take.ensures.value c.in_default.not-Some in
@@ -23,8 +23,8 @@ pub returns-in-Ok-Over-clause-made : goal.returns-in-Ok-Over-clause-made
 returns-in-Ok-Over-clause-made c same =
     let m = c.args.tiles.now.features in
     let from = c.args.tiles.now.from in
-    let metadata = c.args.metadata.now in
-    let area = c.args.area in
+    let metadata = c.args.frame.metadata.now in
+    let area = c.args.frame.area in
     let old = c.args.collected.now in
     let now = c.take.new.self in
     let are = none_waited m metadata area from old c.requires.going c.take.result now c.take.ensures.value c.in_default.not-Some in
@@ -34,18 +34,18 @@ pub returns-in-Err-next_short-clause-fault : goal.returns-in-Err-next_short-clau
 returns-in-Err-next_short-clause-fault c =
     let m = c.args.tiles.now.features in
     let from = c.args.tiles.now.from in
-    let metadata = c.args.metadata.now in
+    let metadata = c.args.frame.metadata.now in
     let old = c.args.collected.now in
     let now = c.take.new.self in
-    let are = none_waited m metadata c.args.area from old c.requires.going c.take.result now c.take.ensures.value c.in_default.not-Some in
+    let are = none_waited m metadata c.args.frame.area from old c.requires.going c.take.result now c.take.ensures.value c.in_default.not-Some in
     c.in-Err-next_short.ensures.fault _ metadata are.added
 
 pub returns-then-len-ge-LARGE_TILE_BYTES-clause-going : goal.returns-then-len-ge-LARGE_TILE_BYTES-clause-going
 returns-then-len-ge-LARGE_TILE_BYTES-clause-going c =
     let m = c.args.tiles.now.features in
     let from = c.args.tiles.now.from in
-    let metadata = c.args.metadata.now in
-    let area = c.args.area in
+    let metadata = c.args.frame.metadata.now in
+    let area = c.args.frame.area in
     let old = c.args.collected.now in
     let tile = c.in-Ok-Whole.tile in
     let next = rw c.in-Ok-Whole.field-0-is at c.in-Ok-Whole.ensures.tile in
@@ -66,8 +66,8 @@ pub add_tile-requires-2-clause-collected : goal.add_tile-requires-2-clause-colle
 add_tile-requires-2-clause-collected c =
     let m = c.args.tiles.now.features in
     let from = c.args.tiles.now.from in
-    let metadata = c.args.metadata.now in
-    let area = c.args.area in
+    let metadata = c.args.frame.metadata.now in
+    let area = c.args.frame.area in
     let old = c.args.collected.now in
     let now = c.take.new.self in
     let next = rw c.in-Ok-Whole.field-0-is at c.in-Ok-Whole.ensures.tile in
