@@ -187,6 +187,9 @@ impl CachedMap {
         })
     }
 
+    /// Lets it go. How its parts go is proved here, and not in each function that has a map.
+    pub fn end(self) {}
+
     /// The map.
     pub fn store(&self) -> &Store
         ensures features { result.now.features ≡ self.now.features }

@@ -11,7 +11,7 @@ ghost use Rattle.tile_service.specs.Stored.{Stored};
 ghost use Rattle.tile_service.specs.declared.fault.ServiceFault.TheVariants.{Broken, Busy, Idle, Memory};
 
 use crate::fault::ServiceFault;
-use crate::letting_go::{let_go, let_stage_go, refused};
+use crate::letting_go::{let_go, let_moment_go, let_stage_go, refused, unread};
 use crate::publishing::{Publication, to_service_fault};
 use crate::reading::MapReading;
 use crate::service::Service;
@@ -78,13 +78,13 @@ fn with_next_features(reading: MapReading, store: &Store, moment: &Moment) -> Dr
     ensures { IsStage reading.area moment.now.features result }
 {
     if moment.is_lost() {
-        return DraftStage::Refused(ServiceFault::Memory);
+        return unread(reading);
     }
     let mut reading = reading;
     match reading.step(store, moment) {
         Ok(true) => DraftStage::Reading(reading),
         Ok(false) => begun(reading),
-        Err(AllocError) => DraftStage::Refused(ServiceFault::Memory),
+        Err(AllocError) => unread(reading),
     }
 }
 
@@ -95,15 +95,12 @@ fn with_all_features(reading: MapReading, store: &Store, moment: &Moment) -> Dra
     ensures { IsStage reading.area moment.now.features result }
 {
     if moment.is_lost() {
-        return DraftStage::Refused(ServiceFault::Memory);
+        return unread(reading);
     }
     let mut reading = reading;
-    loop {
-        match reading.step(store, moment) {
-            Ok(true) => {}
-            Ok(false) => return begun(reading),
-            Err(AllocError) => return DraftStage::Refused(ServiceFault::Memory),
-        }
+    match reading.read_all(store, moment) {
+        Ok(()) => begun(reading),
+        Err(AllocError) => unread(reading),
     }
 }
 
@@ -147,12 +144,9 @@ fn with_all_tiles(content: ContentDraft, store: &Store, moment: &Moment) -> Draf
         return refused(content, ServiceFault::Memory);
     }
     let mut content = content;
-    loop {
-        match content.step(store, moment) {
-            Ok(true) => {}
-            Ok(false) => return finished(content),
-            Err(fault) => return refused(content, to_service_fault(fault)),
-        }
+    match content.make_all(store, moment) {
+        Ok(()) => finished(content),
+        Err(fault) => refused(content, to_service_fault(fault)),
     }
 }
 
@@ -260,13 +254,15 @@ impl<D: Sectors + Drop> Service<D> {
         match MapReading::of(self.alloc, self.map.store(), self.layout.area) {
             Ok(reading) => {
                 let (start, places) = self.journal.begin();
-                self.moment = Some(self.map.store().moment());
-                self.draft = Some(Draft {
+                let now = self.map.store().moment();
+                let moment = self.moment.replace(now);
+                let draft = self.draft.replace(Draft {
                     start,
                     places,
                     made: 0,
                     stage: DraftStage::Reading(reading),
                 });
+                let_go(draft, moment);
                 Ok(())
             }
             Err(AllocError) => Err(ServiceFault::Memory),
@@ -280,12 +276,13 @@ impl<D: Sectors + Drop> Service<D> {
         match self.draft.take() {
             Some(draft) => {
                 let stage = next_stage(draft.stage, self.map.store(), &self.moment);
-                self.draft = Some(Draft {
+                let before = self.draft.replace(Draft {
                     start: draft.start,
                     places: draft.places,
                     made: tiles_made(draft.made, &stage),
                     stage,
                 });
+                let_go(before, None);
             }
             None => {}
         }
@@ -377,7 +374,7 @@ impl<D: Sectors + Drop> Service<D> {
             return Err(ServiceFault::Idle);
         };
         let stage = last_stage(draft.stage, self.map.store(), &moment);
-        let_go(None, moment);
+        let_moment_go(moment);
         match stage {
             DraftStage::Found(content) => {
                 let left = content.sectors() + 1;

@@ -104,7 +104,10 @@ fn read_edits<D: Sectors>(
     };
     match replay(alloc, &mut map, records) {
         Ok(()) => Ok((journal, map)),
-        Err(fault) => Err(fault),
+        Err(fault) => {
+            map.end();
+            Err(fault)
+        }
     }
 }
 

@@ -14,6 +14,7 @@ ghost use Rattle.tile_service.specs.Stored.{Stored, Holds, Keeps};
 ghost use Rattle.tile_service.specs.declared.fault.ServiceFault.TheVariants.{Device};
 
 use crate::fault::ServiceFault;
+use crate::letting_go::{let_go, let_spent_go};
 use crate::service::Service;
 use area_content::{AreaContent, ContentFault, SpentContent, content_of};
 use edit_journal::JournalPosition;
@@ -173,13 +174,14 @@ impl<D: Sectors + Drop> Service<D> {
             snapshot_len: publication.content.snapshot_len(),
             archive_len: publication.content.archive_len(),
         };
-        let _before = self.spent.replace(publication.content.into_spent());
+        let_spent_go(self.spent.replace(publication.content.into_spent()));
         match install(&mut self.disk, root) {
             Ok(()) => {
                 self.journal.release(publication.start);
                 self.root = root;
-                self.draft = None;
-                self.moment = None;
+                let draft = self.draft.take();
+                let moment = self.moment.take();
+                let_go(draft, moment);
                 Ok(0)
             }
             Err(DiskFault) => {

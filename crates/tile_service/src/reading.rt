@@ -53,6 +53,24 @@ impl MapReading {
         Ok(map_left || metadata_left)
     }
 
+    /// Reads the features that are left of the moment. `store` is the map as it is now. The only error is out of memory.
+    pub(crate) fn read_all(&mut self, store: &Store, moment: &Moment) -> Result<(), AllocError>
+        requires reading { IsReading self.old.area moment.now.features self.old }
+        requires there { moment.now.lost ≡ false }
+        requires as_of { IsAsOf moment.now store.now.features }
+        ensures reading { IsReading self.old.area moment.now.features self.new }
+        ensures map { IfOk result (λ done. IsRead self.new.map) }
+        ensures metadata { IfOk result (λ done. IsRead self.new.metadata) }
+    {
+        loop {
+            match self.step(store, moment) {
+                Ok(true) => {}
+                Ok(false) => return Ok(()),
+                Err(fault) => return Err(fault),
+            }
+        }
+    }
+
     /// The content of the map, of which all features are read, with no tile made. The only error is out of memory.
     pub(crate) fn content(self) -> Result<ContentDraft, AllocError>
         requires same { self.metadata.features ≡ self.map.features }

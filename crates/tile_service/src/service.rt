@@ -80,7 +80,7 @@ impl<D: Sectors + Drop> Service<D> {
             version: _,
             journal: _,
             kept_journal: _,
-            map: _,
+            map,
             metadata: _,
             root: _,
             publication: _,
@@ -91,6 +91,7 @@ impl<D: Sectors + Drop> Service<D> {
             broken: _,
         } = self;
         let_go(draft, moment);
+        map.end();
         disk
     }
 }

@@ -5,6 +5,7 @@ use Rattle.generations.specs.declared.root.Root.{Root}
 use Rattle.tile_service.specs.Inside.{service_view, publication_view}
 use Rattle.tile_service.specs.Service.{ServiceView, PublicationView, with_publication}
 use Rattle.tile_service.proofs.Archive.Unchanged.{root_area, root_keeps, ring_root}
+use Rattle.tile_service.proofs.Publications.Drafts.{gone_drafting}
 use Rattle.tile_service.proofs.Publications.Released.{shows_installed}
 use Rattle.tile_service.proofs.Publications.Steps.{next_root_is, installing_leaves, up_installed, service_on_disk, going_seen}
 use Rattle.tile_service.proofs.Edits.ShownEdits.{shows_on}
@@ -26,7 +27,7 @@ returns-in-Ok-clause-any_moment g c = rw (← c.self.view_is) (λ stored honest 
     installing_leaves _ _ stored service c.args.publication up c.requires.written root is _ (c.install.ensures.any_moment honest))
 
 pub returns-in-Ok-clause-after : goal.returns-in-Ok-clause-after
-returns-in-Ok-clause-after g c = rw (← c.self.view_is) (λ stored honest up.
+returns-in-Ok-clause-after g c = rw (c.take-draft.ensures.after, ← c.self.view_is) (λ stored honest up.
     let service : ServiceView g.row.D.Denot = service_view c.self.inside in
     let root : Root = record {
       generation = c.self.inside.root.generation + 1;
@@ -57,8 +58,8 @@ returns-in-Ok-clause-after g c = rw (← c.self.view_is) (λ stored honest up.
     (up.older ++ stored.since)
     (shows_on (with_publication service c.args.publication) service _ _ (up.older ++ stored.since) refl refl refl (λ at inside. refl) up.shows)))
 
-pub returns-clause-any_moment : goal.returns-clause-any_moment
-returns-clause-any_moment g c = rw (← c.self.view_is) (λ stored honest up.
+pub returns-in-Err-clause-any_moment : goal.returns-in-Err-clause-any_moment
+returns-in-Err-clause-any_moment g c = rw (← c.self.view_is) (λ stored honest up.
     let service : ServiceView g.row.D.Denot = service_view c.self.inside in
     let root : Root = record {
       generation = c.self.inside.root.generation + 1;
@@ -76,8 +77,8 @@ pub returns-in-Ok-clause-area : goal.returns-in-Ok-clause-area
 returns-in-Ok-clause-area g c = rw (← c.self.view_is) (λ generation honest. root_area c.self.inside.layout.sectors generation _ _
     (1 + (c.self.inside.root.generation + 1) % 2) (omega arith) (c.install.ensures.others honest))
 
-pub returns-clause-area : goal.returns-clause-area
-returns-clause-area g c = rw (← c.self.view_is) (λ generation honest. root_area c.self.inside.layout.sectors generation _ _
+pub returns-in-Err-clause-area : goal.returns-in-Err-clause-area
+returns-in-Err-clause-area g c = rw (← c.self.view_is) (λ generation honest. root_area c.self.inside.layout.sectors generation _ _
     (1 + (c.self.inside.root.generation + 1) % 2) (omega arith) (c.install.ensures.others honest))
 
 pub install-requires : goal.install-requires
@@ -106,39 +107,39 @@ returns-in-Ok-clause-steps g c = rw (← c.self.view_is) c.install.ensures.steps
 pub invariant_of-self-in-Err : goal.invariant_of-self-in-Err
 invariant_of-self-in-Err g c = service_on_disk c.install.ensures.disk.same_count c.self.invariant
 
-pub returns-clause-fault : goal.returns-clause-fault
-returns-clause-fault g c = refl
+pub returns-in-Err-clause-fault : goal.returns-in-Err-clause-fault
+returns-in-Err-clause-fault g c = refl
 
-pub returns-clause-broken : goal.returns-clause-broken
-returns-clause-broken g c = rw (← c.self.view_is) refl
+pub returns-in-Err-clause-broken : goal.returns-in-Err-clause-broken
+returns-in-Err-clause-broken g c = rw (← c.self.view_is) refl
 
-pub returns-clause-size : goal.returns-clause-size
-returns-clause-size g c = ap (λ s. s.size) c.self.view_is
+pub returns-in-Err-clause-size : goal.returns-in-Err-clause-size
+returns-in-Err-clause-size g c = ap (λ s. s.size) c.self.view_is
 
-pub returns-clause-disk : goal.returns-clause-disk
-returns-clause-disk g c = rw (← c.self.view_is) c.install.ensures.disk
+pub returns-in-Err-clause-disk : goal.returns-in-Err-clause-disk
+returns-in-Err-clause-disk g c = rw (← c.self.view_is) c.install.ensures.disk
 
-pub returns-clause-failed : goal.returns-clause-failed
-returns-clause-failed g c = rw (← c.self.view_is) c.in-Err.ensures.failed
+pub returns-in-Err-clause-failed : goal.returns-in-Err-clause-failed
+returns-in-Err-clause-failed g c = rw (← c.self.view_is) c.in-Err.ensures.failed
 
-pub returns-clause-archive : goal.returns-clause-archive
-returns-clause-archive g c = rw (← c.self.view_is) (root_keeps g.D.Sectors.honest g.D.Sectors.history (service_view c.self.inside) c.install.new.disk
+pub returns-in-Err-clause-archive : goal.returns-in-Err-clause-archive
+returns-in-Err-clause-archive g c = rw (← c.self.view_is) (root_keeps g.D.Sectors.honest g.D.Sectors.history (service_view c.self.inside) c.install.new.disk
     (1 + (c.self.inside.root.generation + 1) % 2) c.self.invariant.area (omega arith) c.install.ensures.others c.self.invariant.ring)
 
-pub returns-clause-steps : goal.returns-clause-steps
-returns-clause-steps g c = rw (← c.self.view_is) c.install.ensures.steps
+pub returns-in-Err-clause-steps : goal.returns-in-Err-clause-steps
+returns-in-Err-clause-steps g c = rw (← c.self.view_is) c.install.ensures.steps
 
 pub returns-in-Ok-clause-drafting : goal.returns-in-Ok-clause-drafting
-returns-in-Ok-clause-drafting g c = inr refl
+returns-in-Ok-clause-drafting g c = inr (gone_drafting c.take-moment.new.self c.take-draft.new.self c.take-draft.ensures.after)
 
-pub returns-clause-drafting : goal.returns-clause-drafting
-returns-clause-drafting g c = inl (ap (λ s. s.drafting) c.self.view_is)
+pub returns-in-Err-clause-drafting : goal.returns-in-Err-clause-drafting
+returns-in-Err-clause-drafting g c = inl (ap (λ s. s.drafting) c.self.view_is)
 
 pub returns-in-Ok-clause-touched : goal.returns-in-Ok-clause-touched
 returns-in-Ok-clause-touched g c = ap (λ s. s.touched) c.self.view_is
 
-pub returns-clause-touched : goal.returns-clause-touched
-returns-clause-touched g c = ap (λ s. s.touched) c.self.view_is
+pub returns-in-Err-clause-touched : goal.returns-in-Err-clause-touched
+returns-in-Err-clause-touched g c = ap (λ s. s.touched) c.self.view_is
 
 pub returns-in-Ok-clause-edits : goal.returns-in-Ok-clause-edits
 returns-in-Ok-clause-edits g c = rw (← c.self.view_is) (λ installed edits shows honest.
@@ -159,8 +160,8 @@ returns-in-Ok-clause-edits g c = rw (← c.self.view_is) (λ installed edits sho
           edits shows,
     ))
 
-pub returns-clause-edits : goal.returns-clause-edits
-returns-clause-edits g c = rw (← c.self.view_is) (λ installed edits shows honest. (
+pub returns-in-Err-clause-edits : goal.returns-in-Err-clause-edits
+returns-in-Err-clause-edits g c = rw (← c.self.view_is) (λ installed edits shows honest. (
   refl,
   shows_on (service_view c.self.inside) _ _ _ edits refl refl refl
       (ring_root _ (1 + (c.self.inside.root.generation + 1) % 2) _ _ _ c.self.invariant.ring (omega arith) (c.install.ensures.others honest)) shows,
