@@ -103,11 +103,6 @@ module _ (bounds : WorldBox) (from : ℕ) where
     omega (arith, first.2, second.2, length-append xs ys),
   )
 
-  -- the first of two lists is too long
-  pub added_longer : (xs ys : List IndexEntry) (left : ℕ) (old new : List ℕ) → AreAdded bounds from xs left old new None
-      → AreAdded bounds from (xs ++ ys) left old new None
-  added_longer xs ys left old new longer = omega (arith, longer, length-append xs ys)
-
   -- ---- in ascending order
 
   pub in_order : (es kept : List IndexEntry) (ns : List ℕ) → IsPermutation (ids_met bounds from kept) ns → IsNonDecreasing ns → IsPermutation es kept

@@ -35,10 +35,6 @@ pub found_none : (root : Root) (records : List RecordData) (used last : ℕ) (ne
 found_none root records used last None not found = found
 found_none root records used last (Some parts) not found = absurd (not parts refl)
 
--- none so far
-pub walked_none : (root : Root) (records : List RecordData) → HasWalked root records 0 root.edits
-walked_none root records = record { count = 0; within = omega arith; used_is = refl; last_is = omega arith }
-
 module _ (n version : ℕ) (root : Root) (records : ℕ → List RecordData) (images : ℕ → Image) (from to : ℕ)
     (stretch : IsStretch n version root records images from to) where
   abbrev ring : Ring

@@ -1,6 +1,6 @@
 -- The members of `tags`, as they are read.
 use Rattle.std.proofs.Common.{◌≡◌, ◌↔◌, ℕ, suc, List, [], ◌∷◌, ◌++◌, length, map, All}
-use Rattle.std.proofs.Common.{Ok, Err, String, Global, Less, nat_cmp, refl, sym, ap, subst, ◌∙◌}
+use Rattle.std.proofs.Common.{Ok, String, Global, Less, nat_cmp, refl, sym, ap, subst, ◌∙◌}
 use Rattle.std.specs.Prelude.{string_bytes}
 use Rattle.std.specs.Cmp.Lexicographic.{slice_cmp}
 use Rattle.std.specs.List.{AllByRecursion}
@@ -74,8 +74,3 @@ pub tags_more : (ts : List TagData) (s t : List (String Global × Value)) (k : S
     → rest_gives ts s ≡ rest_gives (ts ++ d ∷ []) t
 unfolding tags_at
 tags_more ts s t k v d e f = ap (rest_gives ts) e ∙ rw f (goes_on-cons ts d (tags_at (members_view t)))
-
-pub tags_fault : (ts : List TagData) (s t : List (String Global × Value)) (k : String Global) (v : Value) (fault : EditFault)
-    → s ≡ (k, v) ∷ t → tag_at (string_bytes k) (view v) ≡ Err fault → rest_gives ts s ≡ Err fault
-unfolding tags_at
-tags_fault ts s t k v fault e f = ap (rest_gives ts) e ∙ rw f refl

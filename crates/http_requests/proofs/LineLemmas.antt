@@ -1,8 +1,8 @@
 -- Bytes without an empty line after a line have no head.
 use Rattle.std.proofs.Common.{◌≡◌, ◌≢◌, ℕ, ◌+◌, ◌-◌, ◌<◌, ◌≤◌, List, [], ◌∷◌, ◌++◌, Bool, true, false, ◌==◌, ◌||◌, if◌then◌else◌, IsTrue, length, take, drop}
-use Rattle.std.proofs.Common.{refl, sym, ap, ◌∙◌, subst, arith, append_assoc, length-append}
+use Rattle.std.proofs.Common.{refl, sym, ap, ◌∙◌, subst, arith}
 use Rattle.std.specs.List.{flat_map}
-use Rattle.std.proofs.lemmas.List.{take-append-drop, take_all, take_rest, take-append-le}
+use Rattle.std.proofs.lemmas.List.{take-append-drop, take_all, take_rest}
 use Rattle.std.proofs.lemmas.Bool.{eqb-true}
 use Rattle.httparse.specs.Ascii.{line_feed, carriage_return, space, colon}
 use Rattle.httparse.specs.Grammar.{LineEnd, crlf, lf, print_end, print_blank, print_version, Field, print_field, print_section, IsToken, is_token_byte}
@@ -11,12 +11,8 @@ use Rattle.http_requests.specs.declared.lines.Lines.{Lines}
 use Rattle.http_requests.specs.declared.lines.Lines.TheVariants.{Blank, Inside, Ended, Empty}
 use Rattle.http_requests.specs.Lines.{after_byte, after_bytes}
 use Rattle.http_requests.specs.declared.refusals.TheConstants.{NO_HEAD}
-use Rattle.http_requests.specs.declared.searches.Search.{Search}
-use Rattle.http_requests.specs.declared.searches.Search.TheVariants.{Until}
-use Rattle.http_requests.specs.declared.searches.Search.TheVariants.{Head as AtHead}
 use Rattle.http_requests.specs.Frame.{IsMissing}
-use Rattle.http_requests.specs.Search.{IsKnown}
-use Rattle.http_requests.specs.Requests.{HasNoHead, IsRefused}
+use Rattle.http_requests.specs.Requests.{HasNoHead}
 use Rattle.http_requests.proofs.HeadLemmas.{headless_missing}
 
 after_bytes-append : (s : Lines) (a b : List ℕ) → after_bytes s (a ++ b) ≡ after_bytes (after_bytes s a) b
@@ -175,18 +171,3 @@ module _ (bytes : List ℕ) (n : ℕ) (old new : Lines) (so : after_bytes Blank 
   -- bytes without an empty line are no head
   pub scanned_missing : new ≢ Empty → length bytes < 8192 → IsMissing bytes NO_HEAD (length bytes + 1)
   scanned_missing other few = headless_missing bytes (lines_no_head bytes (λ e. other (sym lines_now ∙ e))) few
-
--- more bytes leave what is known
-pub IsKnown-append : (bytes more : List ℕ) (search : Search) → IsKnown bytes search → IsKnown (bytes ++ more) search
-IsKnown-append bytes more (AtHead scanned lines position) is =
-    let within = is.0 in (
-      omega (arith, length-append bytes more),
-      ap (λ (t : List ℕ). after_bytes Blank t) (take-append-le scanned bytes more within) ∙ is.1,
-    )
-IsKnown-append bytes more (Until missing) is = (
-  is.0,
-  is.1,
-  is.2,
-  λ m below. subst (λ (t : List ℕ). IsRefused t is.1 missing.rejection.refusal) (sym (append_assoc bytes more m))
-      (is.3 (more ++ m) (subst (λ (t : List ℕ). length t < missing.until) (append_assoc bytes more m) below)),
-)

@@ -20,7 +20,6 @@ use Rattle.feature_store.specs.Reading.{below}
 use Rattle.feature_store.specs.Store.{FeatureMap}
 use Rattle.feature_store.proofs.Reading.{none_below}
 use Rattle.map_metadata.specs.declared.field_kind.FieldKind.{FieldKind}
-use Rattle.map_metadata.specs.declared.field_kind.FieldKind.TheVariants.{Text, Number, Truth}
 use Rattle.map_metadata.specs.declared.summary.LayerSummary.{LayerSummary}
 use Rattle.map_metadata.specs.Fields.{kind_of, kinds_of, features_in, kinds_in}
 use Rattle.map_metadata.specs.Summaries.{joined, with_kind, with_kinds, with_feature, with_features}
@@ -31,11 +30,6 @@ min_same n = omega arith
 
 max_same : (n : ℕ) → max n n ≡ n
 max_same n = omega arith
-
-pub joined_same : (k : FieldKind) → joined k k ≡ k
-joined_same Text = refl
-joined_same Number = refl
-joined_same Truth = refl
 
 pub with_kinds-append : (o : Option FieldKind) (ks js : List FieldKind) → with_kinds o (ks ++ js) ≡ with_kinds (with_kinds o ks) js
 with_kinds-append o [] js = refl
@@ -136,9 +130,6 @@ module _ (old new : Layers) (layer name : List ℕ) (f : FeatureData) (after : L
 
 -- ---- features
 
-pub adds_none : (a : Layers) → Adds a a []
-adds_none a = record { zooms = λ name. refl; kinds = λ name key. refl }
-
 pub adds_more : (a b c : Layers) (m n : FeatureMap) → Adds a b m → Adds b c n → Adds a c (m ++ n)
 adds_more a b c m n first second = record {
   zooms = λ name.
@@ -180,10 +171,6 @@ blocks_more b c bs i es there lt is same first second =
     (sums_more b c (entries_data (all_of (take i bs))) (entries_data es) first (subst (λ x. Adds b c (entries_data x)) same second))
 
 -- ---- a moment's features
-
--- what a number had, whichever number it is
-pub had_more : (a b : Layers) (n : ℕ) (f : FeatureData) → Adds a b ((0, f) ∷ []) → Adds a b ((n, f) ∷ [])
-had_more a b n f adds = record { zooms = adds.zooms; kinds = adds.kinds }
 
 -- those of a number more
 pub read_more : (b c : Layers) (m : FeatureMap) (n k : ℕ) (had : FeatureMap) → below (k + 1) m ≡ below n m ++ had → SumsUp b (below n m) → Adds b c had

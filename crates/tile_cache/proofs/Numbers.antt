@@ -5,8 +5,8 @@ use Rattle.std.proofs.Math.ListN.{get_or}
 use Rattle.std.proofs.lemmas.Bool.{cases_lt, ltb-true, ltb-false}
 use Rattle.tile_cache.specs.declared.touch_grid.Cells.{Cells}
 use Rattle.feature_model.specs.declared.feature.WorldBox.{WorldBox}
-use Rattle.tile_cache.specs.declared.touch_grid.TheConstants.{SIDE, WIDE_SIDE, LEVEL_CELLS, LEVELS, CELLS, WIDE_LEVELS, WIDE_CELLS}
-use Rattle.tile_cache.specs.Cells.{place_in, side_of, level_end, HasLevels, cell_at, cells_of, HasCell, IsNarrow, RisesTo, IsZeroOrOneOf, IsZeroOrCell, IsGreatestIn}
+use Rattle.tile_cache.specs.declared.touch_grid.TheConstants.{SIDE, WIDE_SIDE, LEVEL_CELLS, LEVELS, WIDE_CELLS}
+use Rattle.tile_cache.specs.Cells.{place_in, side_of, level_end, cell_at, cells_of, HasCell, IsNarrow, RisesTo, IsZeroOrOneOf, IsZeroOrCell, IsGreatestIn}
 use Rattle.tile_cache.specs.Cells.{IsNewestIn, StaysBut}
 
 either : {P Q R : Type 0} → (P → R) → (Q → R) → P ⊎ Q → R
@@ -196,17 +196,3 @@ ends level = go (nat_lt level LEVELS) refl
         ⊎ ((if b then LEVEL_CELLS * (level + 1) else WIDE_CELLS) ≡ WIDE_CELLS) × (LEVELS ≤ level)
     go true is = inl (refl, ltb-true level LEVELS is)
     go false is = inr (refl, ltb-false level LEVELS is)
-
--- a touch grid has its levels
-pub has_levels : (cells : List ℕ) → length cells ≡ CELLS → HasLevels LEVELS cells
-has_levels cells is level lt = elim (ends level) [
-  | inl low ↦ omega (arith, low.0, low.1, is)
-  | inr high ↦ absurd (omega (arith, high.1, lt))
-]
-
--- so has one with the wide level
-pub has_wide_levels : (cells : List ℕ) → length cells ≡ WIDE_CELLS → HasLevels WIDE_LEVELS cells
-has_wide_levels cells is level lt = elim (ends level) [
-  | inl low ↦ omega (arith, low.0, low.1, is)
-  | inr high ↦ omega (arith, high.0, is)
-]
