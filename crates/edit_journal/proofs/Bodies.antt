@@ -1,15 +1,14 @@
 -- The bodies of a record are written one after the other, and synced.
-use Rattle.std.proofs.Common.{◌≡◌, inl, inr, ⊎_elim, ℕ, ◌<◌, ◌≤◌, ◌+◌, List, length, sym, ◌∙◌, ap, subst, arith, Result}
+use Rattle.std.proofs.Common.{◌≡◌, inl, inr, ⊎_elim, ℕ, ◌<◌, ◌≤◌, ◌+◌, List, length, sym, ◌∙◌, ap, arith, Result}
 use Rattle.std.proofs.lemmas.Bool.{cases_eq}
-use Rattle.std.proofs.lemmas.Bool.Decides.{nat_tests}
-use Rattle.sector_disk.specs.Disk.{History, Image, seen, MayHold, FailedWrite, Writes, Syncs}
+use Rattle.sector_disk.specs.Disk.{History, Image, seen, FailedWrite, Writes, Syncs}
 use Rattle.sector_disk.specs.Disk.History.{wrote, synced}
 use Rattle.sector_disk.specs.Moments.{Within, LeavesOnly}
 use Rattle.sector_disk.specs.declared.disk.DiskFault.{DiskFault}
 use Rattle.sector_disk.proofs.History.{started, seen_same, seen_other, any_write, write_within, write_leaves, any_sync, sync_within, sync_leaves, fits_image}
 use Rattle.edit_journal.specs.Records.{RecordData, parts_of, record_sector}
 use Rattle.edit_journal.specs.Ring.{Ring, sector_at}
-use Rattle.edit_journal.specs.Appends.{OldOrBody, ReadsBeside, BodiesStand, syncs_of}
+use Rattle.edit_journal.specs.Appends.{OldOrBody, ReadsBeside}
 use Rattle.edit_journal.proofs.Places.{places_apart}
 
 -- a write changes no other sector that is read
@@ -27,23 +26,6 @@ sync_reads result old new at syncs = ⊎_elim (λ (same : new ≡ old). ap (λ (
 pub synced_reads : (start : History) (ring : Ring) (place used parts : ℕ) (result : Result (Unit {0}) DiskFault) (old new : History) → Syncs result old new
     → ReadsBeside ring place used parts (seen start) (seen old) → ReadsBeside ring place used parts (seen start) (seen new)
 synced_reads start ring place used parts result old new syncs was at apart = sync_reads result old new at syncs ∙ was at apart
-
--- once they are synced a crash leaves the bodies that a read gives
-pub synced_bodies : (ring : Ring) (place used number : ℕ) (r : RecordData) (old new : History) (count : ℕ) → new ≡ synced old
-    → parts_of (length r.text) ≤ count
-    → ((part : ℕ) → 0 < part → part < count → seen old (sector_at ring (place + (used + part))) ≡ record_sector r.version number r.text part)
-    → BodiesStand new ring place used number r
-synced_bodies ring place used number r old new count is all stand part sector pos lt may =
-    let left : MayHold (synced old) (sector_at ring (place + (used + part))) sector =
-    subst (λ (h : History). MayHold h (sector_at ring (place + (used + part))) sector) is may in
-    left ∙ stand part pos (omega (arith, lt, all))
-
--- a record of several parts takes two syncs, and one of one part takes one
-pub two_syncs : (parts : ℕ) → 1 < parts → syncs_of parts ≡ 2
-two_syncs parts several = grind (arith, nat_tests)
-
-pub one_sync : (parts : ℕ) → parts ≡ 1 → syncs_of parts ≡ 1
-one_sync parts one = ap syncs_of one
 
 module _ (start : History) (ring : Ring) (place used number : ℕ) (r : RecordData) (begins : place < ring.places)
     (room : used + parts_of (length r.text) ≤ ring.places) where

@@ -252,28 +252,6 @@ back_left kept left journal offset back ring last place used le edits =
           ∙ ap (λ (n : ℕ). (left.place + (left.used - journal.used)) % n) (sym places);
     }
 
--- with one record more in both
-pub back_more : (kept more journal new : Journal) (parts : ℕ) → GoesBack kept journal
-    → (ring_of more ≡ ring_of kept) × (start_of more.place more.edits ≡ start_of kept.place kept.edits)
-    → (ring_of new ≡ ring_of journal) × (start_of new.place new.edits ≡ start_of journal.place journal.edits)
-    → more.used ≡ kept.used + parts → new.used ≡ journal.used + parts → more.last ≡ kept.last + 1 → new.last ≡ journal.last + 1 → GoesBack more new
-back_more kept more journal new parts back same same_too used used_too last last_too =
-    let edits : suc more.edits ≡ suc kept.edits = ap (λ (s : RecordStart). s.number) same.1 in
-    let edits_too : suc new.edits ≡ suc journal.edits = ap (λ (s : RecordStart). s.number) same_too.1 in
-    let places : more.places ≡ kept.places = ap (λ (g : Ring). g.places) same.0 in
-    let place : more.place ≡ kept.place = ap (λ (s : RecordStart). s.place) same.1 in
-    let place_too : new.place ≡ journal.place = ap (λ (s : RecordStart). s.place) same_too.1 in
-    let behind : kept.used - journal.used ≡ more.used - new.used = omega (arith, used, used_too) in
-    record {
-      ring = same.0 ∙ back.ring ∙ sym same_too.0;
-      last = omega (arith, last, last_too, back.last);
-      used = omega (arith, used, used_too, back.used);
-      edits = omega (arith, edits, edits_too, back.edits);
-      place = place_too ∙ back.place ∙ ap (λ (n : ℕ). (kept.place + n) % kept.places) behind
-          ∙ ap (λ (p : ℕ). (p + (more.used - new.used)) % kept.places) (sym place)
-          ∙ ap (λ (n : ℕ). (more.place + (more.used - new.used)) % n) (sym places);
-    }
-
 -- the records that were there and those in use have it
 pub older_push : (records : List RecordData) (r : RecordData) (kept more journal new : Journal) (before after : History) → GoesBack kept journal
     → HasOlder records kept journal before → IsRecordLength r.version (length r.text) → kept.used + parts_of (length r.text) ≤ kept.places

@@ -6,11 +6,10 @@ use Rattle.std.proofs.lemmas.Bool.{cases_lt}
 use Rattle.std.proofs.lemmas.Bool.Decides.{nat_tests}
 use Rattle.std.proofs.lemmas.List.{append-nil, take-append-drop, length-take-le}
 use Rattle.sector_disk.specs.Disk.{History, Image, seen}
-use Rattle.sector_disk.proofs.History.{seen_may}
 use Rattle.edit_journal.specs.declared.journal.Journal.{Journal}
 use Rattle.edit_journal.specs.Records.{RecordData, IsRecordLength, AreUpTo, parts_of, IsPart, number_from}
 use Rattle.edit_journal.specs.Ring.{Ring, RecordStart, sector_at, start_behind, places_of, HoldsRecords, StandsAt}
-use Rattle.edit_journal.specs.Appends.{ring_of, start_of, IsFree, IsAt}
+use Rattle.edit_journal.specs.Appends.{ring_of, start_of, IsFree}
 use Rattle.edit_journal.specs.Recovers.{EndsAt, PartsStand, IsNext, IsDamaged}
 use Rattle.edit_journal.specs.Lists.{HasRecords, first_bytes}
 use Rattle.edit_journal.proofs.Fronts.{number_there}
@@ -20,13 +19,6 @@ use Rattle.edit_journal.proofs.Releases.{places_split}
 use Rattle.edit_journal.proofs.Recovers.{next_behind, number_behind, next_goes_on, version_behind, records_behind, part_of_first}
 
 -- ---- what a read gives of the records in use
-
-pub are_read : (records : List RecordData) (journal : Journal) (history : History) → IsAt records journal history → HasRecords records journal history
-are_read records journal history is = record {
-  reads = (is.keeps (seen history) (λ at. seen_may history at)).records;
-  uses = is.uses;
-  counts = is.counts;
-}
 
 -- ---- the number in each place of the records
 
