@@ -1,13 +1,31 @@
 -- Boxes that are placed in the quarters of a square one after the other.
-use Rattle.std.proofs.Common.{◌≡◌, ℕ, ◌+◌, ◌-◌, ◌^◌, ◌<◌, ◌≤◌, List, [], ◌∷◌, ◌++◌, length, take, drop, get_or}
-use Rattle.std.proofs.Common.{sym, ap, subst, ◌∙◌, append_assoc, arith}
+use Rattle.std.proofs.Common.{◌≡◌, ℕ, ◌+◌, ◌-◌, ◌^◌, ◌<◌, ◌≤◌, false, List, [], ◌∷◌, ◌++◌, length, map, take, drop, get_or}
+use Rattle.std.proofs.Common.{refl, sym, ap, subst, ◌∙◌, append_assoc, append-nil, arith}
+use Rattle.std.specs.Prelude.{filter}
 use Rattle.std.proofs.Math.Seq.{take-add}
 use Rattle.std.proofs.lemmas.List.{take_more}
+use Rattle.std.proofs.lemmas.List.Elements.{filter-append}
+use Rattle.tile_walk.specs.Boxes.{has, numbers_at}
+use Rattle.tile_walk.specs.Quarters.{placed, IsApart, ArePlaced}
 use Rattle.tile_walk.specs.declared.numbered.Numbered.{Numbered}
 use Rattle.tile_walk.specs.declared.quarter.Quarter.{Quarter}
 use Rattle.tile_walk.specs.declared.cut.Cut.{Cut}
 use Rattle.tile_walk.specs.declared.square.Square.{Square}
 use Rattle.tile_walk.specs.Cut.{AreInQuarters, IsCut}
+
+-- a box without tiles at a column and a row
+numbers_beside : (bs : List Numbered) (b : Numbered) (column row : ℕ) → has b.range column row ≡ false
+    → numbers_at (bs ++ b ∷ []) column row ≡ numbers_at bs column row
+numbers_beside bs b column row none =
+    let here = λ (n : Numbered). has n.range column row in
+    ap (map (λ (n : Numbered). n.number))
+    (filter-append here bs (b ∷ []) ∙ ap (λ (end : List Numbered). filter here bs ++ end) (rw none refl) ∙ append-nil (filter here bs))
+
+-- a box without tiles in a quarter
+pub apart_placed : (q : Quarter) (half : ℕ) (bs cs : List Numbered) (b : Numbered) → IsApart q half b.range → ArePlaced q half bs cs
+    → ArePlaced q half (bs ++ b ∷ []) cs
+apart_placed q half bs cs b apart are column row left up =
+    are column row left up ∙ sym (numbers_beside bs b (placed q half (column, row)).0 (placed q half (column, row)).1 (apart column row left up))
 
 -- one box more of those that are placed
 pub one_more : (half : ℕ) (start xs : List Numbered) (i : ℕ) (d : Numbered) (c : Cut) → i < length xs

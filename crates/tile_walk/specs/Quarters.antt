@@ -25,6 +25,13 @@ placed Fourth half p = flipped half p
 abbrev pub IsApart : Quarter → ℕ → TileRange → Type 0
 IsApart q half range = (column row : ℕ) → column < half → row < half → has range (placed q half (column, row)).0 (placed q half (column, row)).1 ≡ false
 
+-- a range of the square has no tile of the other quarters
+abbrev pub IsOnlyIn : Quarter → ℕ → TileRange → Type 0
+IsOnlyIn First half range = IsApart Second half range × (IsApart Third half range × IsApart Fourth half range)
+IsOnlyIn Second half range = IsApart First half range × (IsApart Third half range × IsApart Fourth half range)
+IsOnlyIn Third half range = IsApart First half range × (IsApart Second half range × IsApart Fourth half range)
+IsOnlyIn Fourth half range = IsApart First half range × (IsApart Second half range × IsApart Third half range)
+
 -- a range of the quarter has the tiles there that a range of the square has
 abbrev pub IsPlaced : Quarter → ℕ → TileRange → TileRange → Type 0
 IsPlaced q half range r =

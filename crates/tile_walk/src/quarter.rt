@@ -1,8 +1,8 @@
 //! The four quarters of a square, in the order of the curve.
 
-ghost use Rattle.std.specs.Prelude.{◌≡◌, ℕ, ◌<◌, ◌≤◌, ◌^◌, false, MatchOption};
+ghost use Rattle.std.specs.Prelude.{◌≡◌, ℕ, ◌<◌, ◌≤◌, ◌^◌, false, IfSome, MatchOption};
 ghost use Rattle.tile_walk.specs.Boxes.{has};
-ghost use Rattle.tile_walk.specs.Quarters.{order_of, placed, IsPlaced, IsApart};
+ghost use Rattle.tile_walk.specs.Quarters.{order_of, placed, IsPlaced, IsApart, IsOnlyIn};
 
 use tile_cutter::TileRange;
 
@@ -30,6 +30,32 @@ pub(crate) fn order_of(quarter: Quarter) -> u64
         Quarter::Third => 2,
         Quarter::Fourth => 3,
     }
+}
+
+/// The quarter in which a range of a square has tiles, if it has tiles in one of them alone. `half` is the side of a quarter.
+pub(crate) fn only_quarter(half: u32, range: TileRange) -> Option<Quarter>
+    requires half { (0 < half) × (half ≤ 2 ^ 30) }
+    ensures only { IfSome result (λ q. IsOnlyIn q half range) }
+{
+    if range.x1 < half {
+        if range.y1 < half {
+            return Some(Quarter::First);
+        }
+        if range.y0 >= half {
+            return Some(Quarter::Second);
+        }
+        return None;
+    }
+    if range.x0 < half {
+        return None;
+    }
+    if range.y0 >= half {
+        return Some(Quarter::Third);
+    }
+    if range.y1 < half {
+        return Some(Quarter::Fourth);
+    }
+    None
 }
 
 /// A range of a square in the columns and rows of a quarter, whose side is `half`. `None` if it has no tile there.

@@ -17,6 +17,6 @@ returns-clause-cut c =
     let before = c.requires.within in
     let p = subst (λ (h : ℕ). AreInQuarters h (front ++ part) c.place_each.new.cut) c.half_side-half.ensures.half
     (c.in_ok-place_each.ensures.quarters front (subst (λ (h : ℕ). AreInQuarters h front cut) (sym c.half_side-half.ensures.half) c.requires.quarters)) in
-    more_cut s boxes part cut _ start count c.len.result refl refl c.deref.ensures.value (c.len.ensures ∙ s.boxes.ok.0) (omega (arith, c.min-count.ensures))
-    (ap (λ (n : ℕ). take n (drop start boxes)) size) c.requires (omega (arith, before, c.min-count.ensures, c.len.ensures, c.len.type_inv))
+    more_cut s boxes part cut _ start count c.len-most.result refl refl c.deref.ensures.value (c.len-most.ensures ∙ s.boxes.ok.0) (omega (arith, c.min-count.ensures))
+    (ap (λ (n : ℕ). take n (drop start boxes)) size) c.requires (omega (arith, before, c.min-count.ensures, c.len-most.ensures, c.len-most.type_inv))
     (record { first = p.first; second = p.second; third = p.third; fourth = p.fourth })
