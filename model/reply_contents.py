@@ -1,6 +1,6 @@
 """Blocks of `reply_script.py` about long contents that several peers get at once: each gets its own bytes. Each is a function of a script."""
 from listening import END, Peer, logged, pace, time_for
-from reply_listening import DONE, EDIT, GONE, SLOW, listen, part_of, published, reply_size
+from reply_listening import DONE, EDIT, GONE, SLOW, listen, part_of, published, reply_size, with_points
 from reply_stand import BEGIN, GET_ARCHIVE, PUBLISH, STEP, large_put, put, request
 
 
@@ -107,4 +107,34 @@ def long_replies(script):
     listen(script, one, other, order=[0, 1, 1, 0, 0], log=logged((2, 2, "closed"), (1, 3, "closed")), time=last)
 
 
-BLOCKS = [two_ranges, in_one_read, long_replies]
+# ---- hex text, which is spelled as it is sent
+
+HEX, HEX_HEAD, EMPTY = request("GET", "/map/0/0/0.hex"), request("HEAD", "/map/0/0/0.hex"), request("GET", "/map/2/3/1.hex")
+
+
+def hex_replies(script):
+    script.say("Hex text is spelled as its peer takes it, in pieces that end within the digits of a byte, or within what was spelled at once.")
+    with_points(script)
+    for takes in ((1, 4_099), (3, 65_535), (65_536, 65_537), (131_073, 1_021), (65_700, 131_071)):
+        one = Peer((0, HEX + DONE), (1, END), answered=[HEX, DONE], takes=takes, last=lasts(script, takes, HEX, DONE))
+        listen(script, one, log=logged((1, 2, "closed")), time=lasts(script, takes, HEX, DONE))
+    script.note("To two peers at once, and an edit comes meanwhile: each has the digits of the tile as it was when it was asked for.")
+    last = lasts(script, SLOW, HEX)
+    one = Peer((0, HEX), (1, END), answered=[HEX], takes=SLOW, last=last)
+    other = Peer((0, HEX_HEAD + EMPTY), (50, EDIT + HEX), (51, END), answered=[HEX_HEAD, EMPTY, EDIT, HEX], last=50)
+    listen(script, one, other, order=[0, 1, 1, 1, 1], log=logged((2, 4, "closed"), (1, 1, "closed")), time=last)
+    script.note("Several in one read, the later ones with the edit; one that is cut; the head alone, and an empty tile.")
+    one = Peer((0, HEX + HEX_HEAD + HEX + EMPTY), (1, END), answered=[HEX, HEX_HEAD, HEX, EMPTY], takes=SLOW,
+               last=lasts(script, SLOW, HEX, HEX_HEAD, HEX, EMPTY))
+    listen(script, one, log=logged((1, 4, "closed")), time=lasts(script, SLOW, HEX, HEX_HEAD, HEX, EMPTY))
+    part, _, over = pace(reply_size(script, HEX), 70_001, 0)
+    listen(script, Peer((0, HEX), (1, END), answered=[HEX], takes=(70_001, 0), size=part), log=logged((1, 0, "write")), time=over)
+    script.ask(HEX_HEAD, HEX, EMPTY, HEX_HEAD, sizes="4096,1")
+    script.note("Of a tile that is read from the archive.")
+    script.ask(PUBLISH)
+    script.again()
+    one = Peer((0, HEX_HEAD + HEX), (1, END), answered=[HEX_HEAD, HEX], takes=(3, 65_535), last=lasts(script, (3, 65_535), HEX_HEAD, HEX))
+    listen(script, one, log=logged((1, 2, "closed")), time=lasts(script, (3, 65_535), HEX_HEAD, HEX))
+
+
+BLOCKS = [two_ranges, in_one_read, long_replies, hex_replies]

@@ -1,6 +1,6 @@
 #!/usr/bin/env python3
-"""The longest turns of a server, in processor time, while a map is published, while its tile of zoom 0 is made or read from the archive, and while its
-metadata are asked for after an edit.
+"""The longest turns of a server, in processor time, while a map is published, while its tile of zoom 0 is made, read from the archive or sent as hex
+text, and while its metadata are asked for after an edit.
 
     python3 bench/speed/longest_turns.py PROGRAM DISK [ROUNDS]    DISK has a map, as editors.py or beginnings.py put one
 
@@ -44,6 +44,12 @@ def tile(connection):
     return f"{len(connection.getresponse().read())} bytes"
 
 
+def hex_text(connection):
+    """The tile, which is cached, as hex text."""
+    connection.request("GET", "/map/0/0/0.hex")
+    return f"{len(connection.getresponse().read())} bytes"
+
+
 def metadata(connection):
     """The metadata after an edit, which drops what the server has of them."""
     connection.request("GET", "/features/1")
@@ -74,6 +80,8 @@ def measure(program, disk, turns, rounds):
     server, port = started(program, disk, turns)
     connection = http.client.HTTPConnection("127.0.0.1", port)
     measured("the tile is made", turns, port, lambda: tile(connection))
+    for _ in range(rounds):
+        measured("it is sent as hex text", turns, port, lambda: hex_text(connection))
     for _ in range(rounds):
         measured("the metadata are made", turns, port, lambda: metadata(connection))
     for _ in range(rounds):

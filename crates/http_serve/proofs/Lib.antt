@@ -9,4 +9,5 @@ pub mod PartLemmas
 mod PieceLemmas
 pub mod ReplyLemmas
 pub mod ServeLemmas
+mod SpellLemmas
 mod TagForms

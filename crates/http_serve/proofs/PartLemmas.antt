@@ -7,12 +7,13 @@ use Rattle.std.proofs.lemmas.List.{append-nil, drop-drop, drop-take, drop_at, ta
 use Rattle.std.specs.Io.KnownBytes.{Appends}
 use Rattle.std.specs.Rc.{rc_slice_items}
 use Rattle.http_serve.specs.declared.replies.Content.{Content}
-use Rattle.http_serve.specs.declared.replies.Content.TheVariants.{Empty, Fixed, Whole, Shared, Parts}
+use Rattle.http_serve.specs.declared.replies.Content.TheVariants.{Empty, Fixed, Whole, Shared, Spelled, Parts}
 use Rattle.http_serve.specs.declared.replies.Reply.{Reply}
 use Rattle.http_serve.specs.Parts.{front_content, rest_content, front_bytes, rest_bytes, IsLater, IsCutIn, IsLeft}
 use Rattle.http_serve.specs.Parts.{cut_after}
 use Rattle.http_serve.specs.Reply.{ReplyView, HeadView, head_of, head_view, reply_view, content_bytes, content_size, FitsParts, IsReply, InParts, with_part}
 use Rattle.http_serve.specs.Reply.{has_no_content, reply_head, reply_bytes}
+use Rattle.hex.specs.Hex.{encode_lower}
 use Rattle.http_values.specs.Codes.{code_of}
 use Rattle.http_requests.specs.Requests.{RequestView}
 use Rattle.http_serve.specs.declared.contents.SendFault.{SendFault}
@@ -152,6 +153,7 @@ size_is parts Empty fits = refl
 size_is parts (Fixed text) fits = refl
 size_is parts (Whole bytes) fits = refl
 size_is parts (Shared bytes) fits = refl
+size_is parts (Spelled bytes) fits = refl
 size_is parts (Parts first size) fits = sym fits.0
 
 joined : (parts : List ℕ) (content : Content) → FitsParts parts content → front_content content ++ rest_content parts content ≡ content_bytes parts content
@@ -159,6 +161,7 @@ joined parts Empty fits = refl
 joined parts (Fixed text) fits = append-nil text.now
 joined parts (Whole bytes) fits = append-nil bytes.items
 joined parts (Shared bytes) fits = append-nil (rc_slice_items bytes)
+joined parts (Spelled bytes) fits = append-nil (encode_lower bytes)
 joined parts (Parts first size) fits =
     ap (λ (t : List ℕ). t ++ drop (length first.items) parts) (sym fits.1) ∙ take-append-drop (length first.items) parts
 
@@ -200,6 +203,7 @@ in_parts Empty A B f is = tt
 in_parts (Fixed text) A B f is = tt
 in_parts (Whole bytes) A B f is = tt
 in_parts (Shared bytes) A B f is = tt
+in_parts (Spelled bytes) A B f is = tt
 in_parts (Parts first size) A B f is = f is
 
 -- the fault reported for a cut is the handler's only if a content is read in parts

@@ -1,7 +1,7 @@
 -- What waits to be sent is sent piece by piece.
 use Rattle.std.proofs.Common.{◌≡◌, ◌<◌, ◌≤◌, ℕ, List, [], ◌++◌, refl, sym, ap, ◌∙◌, subst, take, drop, length, length-append, length-drop}
-use Rattle.std.proofs.Common.{append_assoc, arith, Option}
-use Rattle.std.proofs.lemmas.List.{append-nil, take-append-drop, take-append-le, take_at}
+use Rattle.std.proofs.Common.{append_assoc, arith, Option, ◌-◌}
+use Rattle.std.proofs.lemmas.List.{append-nil, drop-drop, drop_at, take-append-drop, take-append-le, take_at}
 use Rattle.std.specs.Io.KnownBytes.{Appends}
 
 -- bytes of a piece were taken
@@ -32,3 +32,9 @@ cut_before all sent output u v is some written = (
 pub all_sent : (all sent output : List ℕ) (u v : Option (List ℕ)) → all ≡ sent ++ output → output ≡ [] → Appends u v sent → Appends u v all
 all_sent all sent output u v is none written =
     subst (λ (t : List ℕ). Appends u v t) (sym (is ∙ ap (λ (t : List ℕ). sent ++ t) none ∙ append-nil sent)) written
+
+-- what is left of two lists once the first was taken is of the second
+pub drop_behind : (n : ℕ) (xs ys : List ℕ) → length xs ≤ n → drop n (xs ++ ys) ≡ drop (n - length xs) ys
+drop_behind n xs ys over =
+    ap (λ (m : ℕ). drop m (xs ++ ys)) (omega (arith, over)) ∙ sym (drop-drop (n - length xs) (length xs) (xs ++ ys))
+    ∙ ap (drop (n - length xs)) (drop_at xs ys (length xs) refl)

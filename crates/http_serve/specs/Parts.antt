@@ -3,6 +3,7 @@ use Rattle.std.specs.Prelude.{ℕ, ◌≡◌, ◌<◌, List, [], ◌++◌, ◌||
 use Rattle.std.proofs.Common.{Global}
 use Rattle.std.specs.Io.KnownBytes.{Appends}
 use Rattle.std.specs.Rc.{rc_slice_items}
+use Rattle.hex.specs.Hex.{encode_lower}
 use Rattle.http_values.specs.Codes.{code_of}
 use Rattle.http_serve.specs.declared.connection.ServeFault.{ServeFault}
 use Rattle.http_serve.specs.declared.connection.ServeFault.TheVariants as ends
@@ -10,7 +11,7 @@ use Rattle.http_serve.specs.declared.contents.SendFault.{SendFault}
 use Rattle.http_serve.specs.declared.contents.SendFault.TheVariants as cuts
 use Rattle.http_serve.specs.declared.handlers.RestFault.{RestFault}
 use Rattle.http_serve.specs.declared.replies.Content.{Content}
-use Rattle.http_serve.specs.declared.replies.Content.TheVariants.{Empty, Fixed, Whole, Shared, Parts}
+use Rattle.http_serve.specs.declared.replies.Content.TheVariants.{Empty, Fixed, Whole, Shared, Spelled, Parts}
 use Rattle.http_serve.specs.declared.replies.Reply.{Reply}
 use Rattle.http_serve.specs.Reply.{ReplyView, head_view, has_no_content, reply_head}
 
@@ -20,7 +21,26 @@ front_content Empty = []
 front_content (Fixed text) = text.now
 front_content (Whole bytes) = bytes.items
 front_content (Shared bytes) = rc_slice_items bytes
+front_content (Spelled bytes) = encode_lower bytes
 front_content (Parts first size) = first.items
+
+-- those of them that lie in memory as they are sent: none of a content that is spelled
+abbrev pub lying_content : Content → List ℕ
+lying_content Empty = []
+lying_content (Fixed text) = text.now
+lying_content (Whole bytes) = bytes.items
+lying_content (Shared bytes) = rc_slice_items bytes
+lying_content (Spelled bytes) = []
+lying_content (Parts first size) = first.items
+
+-- What is left to spell of a content waits behind bytes of the front, which are sent before, and the front has room for more.
+abbrev pub IsAhead : (taken len capacity : ℕ) → Content → Type 0
+IsAhead taken len capacity Empty = ⊤
+IsAhead taken len capacity (Fixed text) = ⊤
+IsAhead taken len capacity (Whole bytes) = ⊤
+IsAhead taken len capacity (Shared bytes) = ⊤
+IsAhead taken len capacity (Spelled bytes) = 0 < length bytes → (taken < len) × (1 < capacity)
+IsAhead taken len capacity (Parts first size) = ⊤
 
 -- the content bytes after the front, if the content is read in parts and its bytes are parts; otherwise none
 abbrev pub rest_content : List ℕ → Content → List ℕ
@@ -28,6 +48,7 @@ rest_content parts Empty = []
 rest_content parts (Fixed text) = []
 rest_content parts (Whole bytes) = []
 rest_content parts (Shared bytes) = []
+rest_content parts (Spelled bytes) = []
 rest_content parts (Parts first size) = drop (length first.items) parts
 
 -- the head of a reply, and the content that it holds

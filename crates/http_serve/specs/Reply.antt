@@ -2,6 +2,7 @@
 use Rattle.std.specs.Prelude.{ℕ, List, [], ◌∷◌, ◌++◌, ◌==◌, ◌||◌, Bool, true, false, cond, length, codes, decimal, Option, Some, None, option_map}
 use Rattle.std.specs.Prelude.{IfSome, ◌≤◌, ◌≡◌, ◌+◌, take, drop, ⊤}
 use Rattle.std.specs.Rc.{rc_slice_items}
+use Rattle.hex.specs.Hex.{encode_lower}
 use Rattle.http_values.specs.Codes.{code_of}
 use Rattle.http_values.specs.Phrases.{phrase_of}
 use Rattle.httparse.specs.Grammar.{RequestHead}
@@ -12,7 +13,7 @@ use Rattle.http_requests.specs.declared.refusals.Refusal.{Refusal}
 use Rattle.http_requests.specs.declared.refusals.Refusal.TheVariants.{Head, Host, Coding, Expect, Length, Body, Short}
 use Rattle.http_serve.specs.declared.replies.TheConstants.{MAX_WORD}
 use Rattle.http_serve.specs.declared.replies.Content.{Content}
-use Rattle.http_serve.specs.declared.replies.Content.TheVariants.{Empty, Fixed, Whole, Shared, Parts}
+use Rattle.http_serve.specs.declared.replies.Content.TheVariants.{Empty, Fixed, Whole, Shared, Spelled, Parts}
 use Rattle.http_serve.specs.declared.replies.ContentRange.{ContentRange}
 use Rattle.http_serve.specs.declared.replies.ContentRange.TheVariants.{Part, Unsatisfied}
 use Rattle.http_serve.specs.declared.replies.Reply.{Reply}
@@ -59,6 +60,7 @@ content_bytes parts Empty = []
 content_bytes parts (Fixed text) = text.now
 content_bytes parts (Whole bytes) = bytes.items
 content_bytes parts (Shared bytes) = rc_slice_items bytes
+content_bytes parts (Spelled bytes) = encode_lower bytes
 content_bytes parts (Parts first size) = parts
 
 -- the declared length of a content
@@ -67,6 +69,7 @@ content_size Empty = 0
 content_size (Fixed text) = length text.now
 content_size (Whole bytes) = length bytes.items
 content_size (Shared bytes) = length (rc_slice_items bytes)
+content_size (Spelled bytes) = length (encode_lower bytes)
 content_size (Parts first size) = size
 
 -- a content that is read in parts has its declared length and begins with its declared first bytes
@@ -75,6 +78,7 @@ FitsParts parts Empty = ⊤
 FitsParts parts (Fixed text) = ⊤
 FitsParts parts (Whole bytes) = ⊤
 FitsParts parts (Shared bytes) = ⊤
+FitsParts parts (Spelled bytes) = ⊤
 FitsParts parts (Parts first size) = (length parts ≡ size) × (take (length first.items) parts ≡ first.items)
 
 -- what a reply says; if its content is read in parts, it is these bytes
@@ -113,6 +117,7 @@ InParts Empty fact = ⊤
 InParts (Fixed text) fact = ⊤
 InParts (Whole bytes) fact = ⊤
 InParts (Shared bytes) fact = ⊤
+InParts (Spelled bytes) fact = ⊤
 InParts (Parts first size) fact = fact
 
 -- a reply that can be written, and whose content isn't read in parts

@@ -10,6 +10,7 @@ mod refusals;
 mod replies;
 mod serving;
 mod sessions;
+mod spellings;
 mod tags;
 mod writes;
 
@@ -25,3 +26,4 @@ pub use outputs::Spare;
 pub use replies::{Content, ContentRange, EntityTag, MAX_WORD, Reply, Tag, WeakTag};
 pub use serving::serve_with;
 pub use sessions::Buffers;
+pub use spellings::{MAX_SPELLED, Spelling};

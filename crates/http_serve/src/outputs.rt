@@ -1,11 +1,14 @@
-//! The bytes of a reply that wait to be sent: a front in a buffer, and behind it a content that is lent.
-ghost use Rattle.std.specs.Prelude.{◌≡◌, ◌≤◌, ◌<◌, ◌++◌, [], ℕ, true, false, Ok, Err, length, drop, vec_len, vec_capacity, IfOk, IfErr, IsOk, OnOk, OnErr};
+//! The bytes of a reply that wait to be sent: a front in a buffer, and behind it a content that is lent. Of one that is spelled the next bytes are in the
+//! front, a part at a time.
+ghost use Rattle.std.specs.Prelude.{◌≡◌, ◌≤◌, ◌<◌, ◌+◌, ◌++◌, [], ℕ, true, false, Ok, Err, length, drop, vec_len, vec_capacity, IfOk, IfErr, IsOk, OnOk, OnErr};
+ghost use Rattle.hex.specs.Hex.{encode_lower};
 ghost use Rattle.http_serve.specs.Connections.{IsNextPiece};
-ghost use Rattle.http_serve.specs.Parts.{front_bytes, front_content};
+ghost use Rattle.http_serve.specs.Parts.{front_bytes, front_content, lying_content, IsAhead};
 ghost use Rattle.http_serve.specs.Reply.{HasShortWords, head_view};
 ghost use Rattle.http_serve.specs.declared.replies.TheConstants.{MAX_REPLY_HEAD, REPLY_SPACE};
 
 use crate::replies::{MAX_REPLY_HEAD, REPLY_SPACE, put_reply_head};
+use crate::spellings::Spelling;
 use crate::{Content, Downloads, Reply, RestFault, Ticket};
 use std::alloc::{AllocError, Global};
 use std::marker::Model;
@@ -38,7 +41,7 @@ impl Spare {
 #[derive(Drop)]
 pub(crate) struct Output {
     alloc: Global,
-    /// The head of a reply, and a short content that was copied behind it, or a part of a content.
+    /// The head of a reply, and a short content that was copied behind it, or a part of a content that is read or spelled by parts.
     front: Vec<u8>,
     /// A content that is lent.
     lent: Content,
@@ -49,26 +52,102 @@ pub(crate) struct Output {
 impl Model for Output {
     ghost use Rattle.std.specs.Prelude.{◌≤◌, ◌+◌, ◌++◌, drop, length, vec_len, vec_capacity};
     ghost use Rattle.http_serve.specs.Buffers.{BufferView};
-    ghost use Rattle.http_serve.specs.Parts.{front_content};
+    ghost use Rattle.http_serve.specs.Parts.{front_content, IsAhead};
 
     ghost Value = { BufferView };
 
     ghost view = { λ o. record { waiting = drop o.taken (o.front.items ++ front_content o.lent); capacity = vec_capacity o.front } };
 
-    ghost invariant = { λ o. o.taken ≤ vec_len o.front + length (front_content o.lent) };
+    ghost invariant = { λ o. (o.taken ≤ vec_len o.front + length (front_content o.lent))
+        × IsAhead o.taken (vec_len o.front) (vec_capacity o.front) o.lent };
+}
+
+/// What is left of a content once the bytes of it that lie together are sent.
+fn unjoined(content: Content) -> Content
+    ensures { lying_content content ++ front_content result ≡ front_content content }
+{
+    match content {
+        Content::Spelled(spelling) => Content::Spelled(spelling),
+        Content::Empty
+        | Content::Fixed(_)
+        | Content::Whole(_)
+        | Content::Shared(_)
+        | Content::Parts { .. } => Content::Empty,
+    }
 }
 
 /// Copies a content behind the front, if both fit into `REPLY_SPACE` and there is memory for it. What it returns follows the front.
 fn join(front: &mut Vec<u8>, content: Content) -> Content
     ensures bytes { front.new.items ++ front_content result ≡ front.old.items ++ front_content content }
+    ensures longer { vec_len front.old ≤ vec_len front.new }
     ensures capacity { vec_capacity front.old ≤ vec_capacity front.new }
 {
     if content.front().len() > REPLY_SPACE.saturating_sub(front.len()) {
         return content;
     }
     match front.extend_from_slice(content.front()) {
-        Ok(()) => Content::Empty,
+        Ok(()) => unjoined(content),
         Err(_) => content,
+    }
+}
+
+/// Spells the first bytes of a content that is spelled behind the front, as many as fit into `REPLY_SPACE`, or as there is memory for.
+fn spell_behind(front: &mut Vec<u8>, lent: &mut Content)
+    requires some { 0 < vec_len front.old }
+    requires room { 1 < vec_capacity front.old }
+    ensures bytes { front.new.items ++ front_content lent.new ≡ front.old.items ++ front_content lent.old }
+    ensures ahead { IsAhead 0 (vec_len front.new) (vec_capacity front.new) lent.new }
+    ensures capacity { vec_capacity front.old ≤ vec_capacity front.new }
+{
+    match lent {
+        Content::Spelled(spelling) => {
+            let room = REPLY_SPACE.saturating_sub(front.len());
+            let _ = front.reserve(spelling.digits().min(room));
+            spelling.spell(front);
+        }
+        Content::Empty
+        | Content::Fixed(_)
+        | Content::Whole(_)
+        | Content::Shared(_)
+        | Content::Parts { .. } => {}
+    }
+}
+
+/// Once all of the front was taken, it has the next bytes that are left to spell. Returns how many bytes of it were taken.
+fn spell_next(front: &mut Vec<u8>, spelling: &mut Spelling, taken: usize) -> usize
+    requires within { taken ≤ vec_len front.old + length (encode_lower spelling.old) }
+    requires room { 0 < length spelling.old → 1 < vec_capacity front.old }
+    ensures waiting { drop result (front.new.items ++ encode_lower spelling.new) ≡ drop taken (front.old.items ++ encode_lower spelling.old) }
+    ensures within { result ≤ vec_len front.new + length (encode_lower spelling.new) }
+    ensures ahead { 0 < length spelling.new → (result < vec_len front.new) × (1 < vec_capacity front.new) }
+    ensures capacity { vec_capacity front.old ≤ vec_capacity front.new }
+{
+    if taken < front.len() {
+        return taken;
+    }
+    let over = taken - front.len();
+    spelling.skip(over / 2);
+    front.clear();
+    spelling.spell(front);
+    over % 2
+}
+
+/// The same of what follows the front: it may be a content that is spelled.
+fn spell_on(front: &mut Vec<u8>, lent: &mut Content, taken: usize) -> usize
+    requires within { taken ≤ vec_len front.old + length (front_content lent.old) }
+    requires ahead { (before : ℕ) × IsAhead before (vec_len front.old) (vec_capacity front.old) lent.old }
+    ensures waiting { drop result (front.new.items ++ front_content lent.new) ≡ drop taken (front.old.items ++ front_content lent.old) }
+    ensures within { result ≤ vec_len front.new + length (front_content lent.new) }
+    ensures ahead { IsAhead result (vec_len front.new) (vec_capacity front.new) lent.new }
+    ensures capacity { vec_capacity front.old ≤ vec_capacity front.new }
+{
+    match lent {
+        Content::Spelled(spelling) => spell_next(front, spelling, taken),
+        Content::Empty
+        | Content::Fixed(_)
+        | Content::Whole(_)
+        | Content::Shared(_)
+        | Content::Parts { .. } => taken,
     }
 }
 
@@ -119,7 +198,7 @@ impl Output {
     pub(crate) fn held(&self) -> usize
         ensures { length self.now.waiting ≤ result }
     {
-        self.front.len() + self.lent.front().len()
+        self.front.len() + self.lent.front_len()
     }
 
     /// Whether bytes wait.
@@ -127,7 +206,7 @@ impl Output {
         ensures some { result ≡ true → 0 < length self.now.waiting }
         ensures none { result ≡ false → self.now.waiting ≡ [] }
     {
-        self.taken < self.front.len() + self.lent.front().len()
+        self.taken < self.front.len() + self.lent.front_len()
     }
 
     /// Makes room for the head of a reply and a small content, where nothing waits.
@@ -169,6 +248,7 @@ impl Output {
         self.taken = 0;
         if reply.sends_content(bare) {
             self.lent = join(&mut self.front, reply.content);
+            spell_behind(&mut self.front, &mut self.lent);
         } else {
             self.lent = Content::Empty;
         }
@@ -216,11 +296,12 @@ impl Output {
     pub(crate) fn took(&mut self, count: usize)
         requires { count ≤ length self.old.waiting }
         ensures waiting { self.new.waiting ≡ drop count self.old.waiting }
-        ensures capacity { self.new.capacity ≡ self.old.capacity }
+        ensures capacity { self.old.capacity ≤ self.new.capacity }
     {
-        let most = self.front.len() + self.lent.front().len();
-        self.taken += count;
-        prove!(self.taken <= most);
+        let most = self.front.len() + self.lent.front_len();
+        let taken = self.taken + count;
+        prove!(taken <= most);
+        self.taken = spell_on(&mut self.front, &mut self.lent, taken);
     }
 
     /// Drops all bytes. The memory of the front is kept.

@@ -1,15 +1,16 @@
 //! Replies and their bytes.
-ghost use Rattle.std.specs.Prelude.{◌≡◌, ◌≤◌, ◌<◌, ◌+◌, ◌*◌, ◌++◌, length, vec_len, vec_capacity, IfOk, IfSome, Some, None, not, ◌||◌};
+ghost use Rattle.std.specs.Prelude.{◌≡◌, ◌≤◌, ◌<◌, ◌+◌, ◌*◌, ◌^◌, ◌++◌, length, vec_len, vec_capacity, IfOk, IfSome, Some, None, not, ◌||◌};
 ghost use Rattle.std.specs.Option.{option_map};
 ghost use Rattle.http_values.specs.Codes.{code_of};
 ghost use Rattle.http_values.specs.declared.digits.TheConstants.{MAX_DIGITS};
-ghost use Rattle.http_serve.specs.Parts.{front_content};
+ghost use Rattle.http_serve.specs.Parts.{front_content, lying_content};
 ghost use Rattle.http_serve.specs.Reply.{HasShortWords, head_view, content_size, part_line, unsatisfied_line};
 ghost use Rattle.http_serve.specs.Reply.{range_line, tag_line, tag_lines, word_line, length_line, closing_line, field_lines, reply_head, has_no_content};
 ghost use Rattle.http_serve.specs.Tags.{tag_text, weak_text};
 ghost use Rattle.http_serve.specs.declared.replies.TheConstants.{MAX_REPLY_HEAD, MAX_WORD};
 ghost use Rattle.http_serve.specs.declared.tags.TheConstants.{MAX_TAG};
 
+use crate::spellings::Spelling;
 use crate::tags::{MAX_TAG, put_tag, put_tag_text, put_weak_text};
 use http_values::{Status, push_number, push_text};
 use std::alloc::{AllocError, Global};
@@ -32,21 +33,34 @@ pub enum Content {
     Whole(Vec<u8>),
     /// Bytes that others may hold as well, such as a cache.
     Shared(RcSlice<u8>),
+    /// The same as hex text.
+    Spelled(Spelling),
     /// `length` bytes that begin with `first`. The rest is read by `Handler::read_content`.
     Parts { first: Vec<u8>, length: u64 },
 }
 
 impl Content {
-    /// The bytes held by the reply.
+    /// The bytes held by the reply that lie together as they are sent.
     pub(crate) fn front(&self) -> &[u8]
-        ensures { result.now ≡ front_content self.now }
+        ensures { result.now ≡ lying_content self.now }
     {
         match self {
-            Content::Empty => b"",
+            Content::Empty | Content::Spelled(_) => b"",
             Content::Fixed(text) => text,
             Content::Whole(bytes) => bytes.as_slice(),
             Content::Shared(bytes) => bytes.as_slice(),
             Content::Parts { first, .. } => first.as_slice(),
+        }
+    }
+
+    /// How many bytes it has of those that the reply holds, spelled or not.
+    pub(crate) fn front_len(&self) -> usize
+        ensures len { result ≡ length (front_content self.now) }
+        ensures most { result < 2 ^ 63 }
+    {
+        match self {
+            Content::Spelled(spelling) => spelling.digits(),
+            whole => whole.front().len(),
         }
     }
 
@@ -56,7 +70,7 @@ impl Content {
     {
         match self {
             Content::Parts { length, .. } => *length,
-            whole => whole.front().len() as u64,
+            whole => whole.front_len() as u64,
         }
     }
 }
@@ -333,6 +347,7 @@ pub(crate) fn put_reply_head(out: &mut Vec<u8>, reply: &Reply, close: bool)
     requires room { MAX_REPLY_HEAD ≤ vec_capacity out.old }
     ensures items { out.new.items ≡ reply_head close (head_view reply.now) }
     ensures short { vec_len out.new ≤ MAX_REPLY_HEAD }
+    ensures some { 0 < vec_len out.new }
     ensures capacity { vec_capacity out.old ≤ vec_capacity out.new }
 {
     out.clear();

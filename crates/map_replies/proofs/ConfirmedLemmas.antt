@@ -5,7 +5,7 @@ use Rattle.std.proofs.lemmas.Bool.{false≢true}
 use Rattle.http_requests.specs.Requests.{RequestView}
 use Rattle.http_serve.specs.Reply.{ReplyView, IsReply, InParts, reply_view, content_bytes, with_part}
 use Rattle.http_serve.specs.declared.replies.Content.{Content}
-use Rattle.http_serve.specs.declared.replies.Content.TheVariants.{Empty, Fixed, Whole, Shared, Parts}
+use Rattle.http_serve.specs.declared.replies.Content.TheVariants.{Empty, Fixed, Whole, Shared, Spelled, Parts}
 use Rattle.http_serve.specs.declared.replies.Reply.{Reply}
 use Rattle.http_serve.proofs.HandlerLemmas.{none_in_parts, whole_reply}
 use Rattle.sector_disk.specs.Disk.{History}
@@ -26,6 +26,7 @@ bytes_whole Empty parts none = refl
 bytes_whole (Fixed text) parts none = refl
 bytes_whole (Whole bytes) parts none = refl
 bytes_whole (Shared bytes) parts none = refl
+bytes_whole (Spelled bytes) parts none = refl
 bytes_whole (Parts first size) parts none = absurd none
 
 -- a reply with another content, neither of which is read in parts

@@ -127,6 +127,7 @@ whole_begun reply is = begun_in reply.content is.1
     begun_in (contents.Fixed text) none = tt
     begun_in (contents.Whole bytes) none = tt
     begun_in (contents.Shared bytes) none = tt
+    begun_in (contents.Spelled bytes) none = tt
     begun_in (contents.Parts first size) none = absurd none
 
 all_in_parts : (content : Content) (fact : Type 0) → fact → InParts content fact
@@ -134,6 +135,7 @@ all_in_parts contents.Empty fact is = tt
 all_in_parts (contents.Fixed text) fact is = tt
 all_in_parts (contents.Whole bytes) fact is = tt
 all_in_parts (contents.Shared bytes) fact is = tt
+all_in_parts (contents.Spelled bytes) fact is = tt
 all_in_parts (contents.Parts first size) fact is = is
 
 -- ---- parts of an archive

@@ -14,7 +14,7 @@ ghost use Rattle.map_replies.specs.declared.replies.TheConstants.{MAX_TEXT};
 
 use crate::fault::RequestFault;
 use feature_model::EditFault;
-use http_serve::{Content, Reply, Status, Tag, WeakTag};
+use http_serve::{Content, Reply, Spelling, Status, Tag, WeakTag};
 use http_values::{MAX_DIGITS, push_number, push_text};
 use std::alloc::{AllocError, Global};
 use std::rc::RcSlice;
@@ -413,43 +413,38 @@ fn format_type(format: TileFormat) -> &'static str
     }
 }
 
-/// The bytes of a tile as they are sent.
-fn format_content(
-    alloc: Global,
-    format: TileFormat,
-    bytes: RcSlice<u8>,
-) -> Result<Content, AllocError>
+/// The bytes of a tile as they are sent. Hex text is spelled part by part, so that a long one takes no turn for itself and no memory.
+fn format_content(format: TileFormat, bytes: RcSlice<u8>) -> Result<Content, AllocError>
     ensures content { IfOk result (λ content. content_bytes [] content ≡ format_content format (rc_slice_items bytes)) }
     ensures whole { IfOk result (λ content. InParts content ⊥) }
 {
     match format {
         TileFormat::Mvt => Ok(Content::Shared(bytes)),
-        TileFormat::Hex => Ok(Content::Whole(hex::encode(alloc, bytes.as_slice())?.into_bytes())),
+        TileFormat::Hex => match Spelling::new(bytes) {
+            Some(spelling) => Ok(Content::Spelled(spelling)),
+            None => Err(AllocError),
+        },
     }
 }
 
 /// The reply with the bytes of a tile.
-fn some_tile(alloc: Global, format: TileFormat, bytes: RcSlice<u8>) -> Result<Reply, AllocError>
+fn some_tile(format: TileFormat, bytes: RcSlice<u8>) -> Result<Reply, AllocError>
     ensures reply { IfOk result (λ reply. reply_view [] reply ≡ tile_reply format (rc_slice_items bytes)) }
     ensures writable { IfOk result IsWhole }
 {
     let kind = format_type(format);
-    let content = format_content(alloc, format, bytes)?;
+    let content = format_content(format, bytes)?;
     Ok(Reply::plain(Status::Ok, Some(kind), content))
 }
 
 /// The reply with a tile, or 204 if the tile is empty.
-pub(crate) fn tile(
-    alloc: Global,
-    format: TileFormat,
-    content: Option<RcSlice<u8>>,
-) -> Result<Reply, AllocError>
+pub(crate) fn tile(format: TileFormat, content: Option<RcSlice<u8>>) -> Result<Reply, AllocError>
     ensures reply { IfOk result (λ reply. reply_view [] reply ≡ content_reply format (option_map rc_slice_items content)) }
     ensures writable { IfOk result IsWhole }
 {
     match content {
         None => Ok(empty()),
-        Some(bytes) => some_tile(alloc, format, bytes),
+        Some(bytes) => some_tile(format, bytes),
     }
 }
 

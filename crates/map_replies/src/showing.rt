@@ -103,7 +103,7 @@ impl<D: Sectors + Drop> Calls<D> {
         let Ok(content) = self.service.tile(at) else {
             return Err(RequestFault::Memory);
         };
-        match replies::tile(self.alloc, format, content) {
+        match replies::tile(format, content) {
             Ok(reply) => Ok(reply),
             Err(AllocError) => Err(RequestFault::Memory),
         }
