@@ -1,27 +1,23 @@
 -- What an index has of a map, once a number is set or taken away.
-use Rattle.std.proofs.Common.{◌≡◌, ◌≢◌, ◌==◌, ◌&&◌, ℕ, ◌+◌, ◌<◌, Bool, true, false, cond, List, [], ◌∷◌, map, Some, None, refl, sym, ap, subst, ◌∙◌, arith}
-use Rattle.std.proofs.Common.{inl, inr}
+use Rattle.std.proofs.Common.{◌≡◌, ◌==◌, ◌&&◌, ℕ, ◌+◌, ◌<◌, Bool, true, false, cond, List, [], ◌∷◌, map, Some, None, refl, sym, ap, subst, arith}
 use mathlib.Core.Bool.{false≢true}
 use Rattle.std.specs.Bool.{OnTrue}
 use Rattle.std.specs.List.{sum_by, remove, Contains}
 use Rattle.std.specs.List.Sorted.{IsPermutation}
 use Rattle.std.specs.Ordering.{nat_cmp}
-use Rattle.std.specs.declared.cmp.Ordering.TheVariants.{Less, Equal, Greater}
 use Rattle.std.specs.BTreeMap.{insert_entry, is_at}
 use Rattle.std.specs.Map.{lookup, remove_entry}
-use Rattle.std.proofs.lemmas.Bool.{cases_eq}
 use Rattle.std.proofs.lemmas.Bool.Decides.{nat_tests}
 use Rattle.std.proofs.lemmas.List.Elements.{Contains-append_right}
 use Rattle.std.proofs.lemmas.List.Sorted.{IsPermutation-refl, IsPermutation-sym, IsPermutation-trans, IsPermutation-cons, IsPermutation-remove}
 use Rattle.std.proofs.lemmas.List.Sorted.{sum_by-IsPermutation, sum_by_pushed, sum_by_popped}
 use Rattle.std.proofs.lemmas.List.Sums.{sum_by-cons}
 use Rattle.number_map.specs.Blocks.{Ascends}
-use Rattle.number_map.proofs.Numbers.{less, equal, greater, by_order}
-use Rattle.number_map.proofs.Entries.{ascends_head, ascends_tail, raised, lookup_here, lookup_on, removed_here, removed_on, remove_above, set_step}
 use Rattle.box_index.specs.declared.entry.IndexEntry.{IndexEntry}
 use Rattle.feature_model.specs.Data.{FeatureData}
 use Rattle.feature_store.specs.Indexed.{index_entry, IsIndexed}
 use Rattle.feature_store.specs.Store.{FeatureMap, feature_at, with_feature, without_feature}
+use Rattle.feature_store.proofs.Totals.{total_without, total_with, removed_none}
 
 -- ---- lists of the same entries
 
@@ -80,61 +76,31 @@ same_entries (x ∷ xs) ys sums =
     (IsPermutation-cons x xs rest (same_entries xs rest (λ f. omega (arith, sums f, sum_by-cons f x xs, sum_by_popped f x ys rest parted))))
     (IsPermutation-sym ys (x ∷ rest) parted)
 
--- ---- sums over the entries of a map
+-- ---- sums over the entries of an index that has what a map has
 
 module _ (f : IndexEntry → ℕ) where
   abbrev total : FeatureMap → ℕ
   total m = sum_by f (map index_entry m)
 
-  total_on : (e : ℕ × FeatureData) (m : FeatureMap) → total (e ∷ m) ≡ f (index_entry e) + total m
-  total_on e m = sum_by-cons f (index_entry e) (map index_entry m)
+  total_is : (m : FeatureMap) → total m ≡ sum_by (λ e. f (index_entry e)) m
+  total_is [] = refl
+  total_is (e ∷ m) =
+      omega (arith, sum_by-cons f (index_entry e) (map index_entry m), sum_by-cons (λ (d : ℕ × FeatureData). f (index_entry d)) e m, total_is m)
 
-  total_without : (m : FeatureMap) (id : ℕ) (v : FeatureData) → lookup (is_at (nat_cmp id)) m ≡ Some v
+  entries_without : (m : FeatureMap) (id : ℕ) (v : FeatureData) → lookup (is_at (nat_cmp id)) m ≡ Some v
       → total m ≡ f (index_entry (id, v)) + total (remove_entry (is_at (nat_cmp id)) m)
-  total_without [] id v h = cc
-  total_without (e ∷ m) id v h = elim (cases_eq id e.0) [
-    | inl here ↦
-        let found : Some e.1 ≡ Some v = sym (lookup_here id e m here) ∙ h in
-        let value : e.1 ≡ v = cc in
-        let is : f (index_entry e) ≡ f (index_entry (id, v)) = λ i. f (index_entry (sym here i, value i)) in
-        omega (arith, total_on e m, is, ap total (removed_here id e m here))
-    | inr differs ↦
-        omega (
-          arith,
-          total_on e m,
-          total_without m id v (sym (lookup_on id e m differs) ∙ h),
-          ap total (removed_on id e m differs),
-          total_on e (remove_entry (is_at (nat_cmp id)) m),
-        )
-  ]
+  entries_without m id v h =
+      omega (arith, total_is m, total_is (remove_entry (is_at (nat_cmp id)) m), total_without (λ e. f (index_entry e)) m id v h)
 
-  total_with : (m : FeatureMap) (id : ℕ) (v : FeatureData) → Ascends m
+  entries_with : (m : FeatureMap) (id : ℕ) (v : FeatureData) → Ascends m
       → total (insert_entry nat_cmp m id v) ≡ f (index_entry (id, v)) + total (remove_entry (is_at (nat_cmp id)) m)
-  total_with [] id v up = total_on (id, v) []
-  total_with (e ∷ m) id v up = by_order id e.0
-      (λ h.
-      let past = remove_above (e ∷ m) id (h, raised m id e.0 (omega (arith, h)) (ascends_head e m up)) in
-      omega (arith, ap total (set_step id v e m Less (less id e.0 h)), total_on (id, v) (e ∷ m), ap total past))
-      (λ h.
-      let is : f (index_entry (e.0, v)) ≡ f (index_entry (id, v)) = ap (λ n. f (index_entry (n, v))) (sym h) in
-      omega (arith, ap total (set_step id v e m Equal (equal id e.0 h)), total_on (e.0, v) m, is, ap total (removed_here id e m h)))
-      (λ h.
-      let differs : id ≢ e.0 = λ s. omega arith in
+  entries_with m id v up =
       omega (
         arith,
-        ap total (set_step id v e m Greater (greater id e.0 h)),
-        total_on e (insert_entry nat_cmp m id v),
-        total_with m id v (ascends_tail e m up),
-        ap total (removed_on id e m differs),
-        total_on e (remove_entry (is_at (nat_cmp id)) m),
-      ))
-
-removed_none : (m : FeatureMap) (id : ℕ) → lookup (is_at (nat_cmp id)) m ≡ None → remove_entry (is_at (nat_cmp id)) m ≡ m
-removed_none [] id h = refl
-removed_none (e ∷ m) id h = elim (cases_eq id e.0) [
-  | inl here ↦ let found : Some e.1 ≡ None = sym (lookup_here id e m here) ∙ h in cc
-  | inr differs ↦ removed_on id e m differs ∙ ap (λ r. e ∷ r) (removed_none m id (sym (lookup_on id e m differs) ∙ h))
-]
+        total_is (insert_entry nat_cmp m id v),
+        total_is (remove_entry (is_at (nat_cmp id)) m),
+        total_with (λ e. f (index_entry e)) m id v up,
+      )
 
 -- ---- the index
 
@@ -147,7 +113,7 @@ has_entry m id v es found indexed =
     contains_counted x es (omega (
       arith,
       sum_by-IsPermutation one (map index_entry m) es indexed,
-      total_without one m id v found,
+      entries_without one m id v found,
       one_at_self x,
     ))
 
@@ -158,7 +124,7 @@ unfolding feature_at without_feature
 taken_away m id v es rest found indexed taken =
     let x = index_entry (id, v) in
     same_entries (map index_entry (remove_entry (is_at (nat_cmp id)) m)) rest
-    (λ f. omega (arith, sum_by-IsPermutation f (map index_entry m) es indexed, total_without f m id v found, sum_by_popped f x es rest taken))
+    (λ f. omega (arith, sum_by-IsPermutation f (map index_entry m) es indexed, entries_without f m id v found, sum_by_popped f x es rest taken))
 
 pub entry_gone : (m : FeatureMap) (id : ℕ) (v : FeatureData) (es rest : List IndexEntry) (e : IndexEntry) (b : Bool) → e ≡ index_entry (id, v)
     → (Contains es e → b ≡ true) → OnTrue b (IsPermutation es (e ∷ rest)) → feature_at m id ≡ Some v → IsIndexed m es → IsIndexed (without_feature m id) rest
@@ -198,7 +164,7 @@ put_in m id v es more up indexed pushed =
     same_entries (map index_entry (insert_entry nat_cmp m id v)) more
     (λ f. omega (
       arith,
-      total_with f m id v up,
+      entries_with f m id v up,
       sum_by-IsPermutation f (map index_entry (remove_entry (is_at (nat_cmp id)) m)) es indexed,
       sum_by_pushed f (index_entry (id, v)) es more pushed,
     ))

@@ -1,5 +1,5 @@
 -- Laws of maps, their snapshots and their tiles, for the crates above.
-use Rattle.std.proofs.Common.{◌≡◌, ◌+◌, ◌*◌, ◌<◌, ◌≤◌, ℕ, true, false, List, [], length}
+use Rattle.std.proofs.Common.{◌≡◌, ◌+◌, ◌-◌, ◌*◌, ◌%◌, ◌^◌, ◌<◌, ◌≤◌, ℕ, true, false, List, [], length, Some, sym}
 use Rattle.std.specs.Prelude.{◌↔◌}
 use Rattle.feature_model.specs.Data.{FeatureData, ChangeData, put}
 use Rattle.feature_model.specs.declared.limits.TheConstants.{MAX_EDIT_BYTES}
@@ -9,8 +9,10 @@ use Rattle.mvt_layer.specs.Reads.{ReadsAs}
 use Rattle.mvt_layer.specs.Tile.{LayerView}
 use Rattle.mvt_write.specs.Written.{written}
 use Rattle.feature_store.specs.declared.limit.TheConstants.{TEXTS_END}
+use Rattle.feature_store.specs.Digests.{entry_hash, map_digest}
 use Rattle.feature_store.specs.Layers.{AreLayers, is_tile, layers}
-use Rattle.feature_store.specs.Store.{FeatureMap, IsMap, with_feature, without_feature, changed, snapshot}
+use Rattle.feature_store.specs.Store.{FeatureMap, IsMap, feature_at, with_feature, without_feature, changed, snapshot}
+use Rattle.feature_store.proofs.DigestLemmas.{digest_set, digest_taken}
 use Rattle.feature_store.proofs.Snapshots.{one_map, map_changed}
 use Rattle.feature_store.proofs.Texts.{with_takes, without_takes, snapshot_short}
 use Rattle.feature_store.proofs.TilesRead.{tile_reads, tile_short}
@@ -58,3 +60,15 @@ snapshot_after_put = with_takes
 -- An edit that takes a feature away makes them no longer.
 pub snapshot_after_delete : (m : FeatureMap) (id : ℕ) → length (snapshot (without_feature m id)) ≤ length (snapshot m)
 snapshot_after_delete = without_takes
+
+-- ---- digests
+
+-- The digest of a map in which a number is given a feature: that of all others, and the hash of its text more.
+pub digest_after_put : (m : FeatureMap) (id : ℕ) (f : FeatureData) → IsMap m
+    → map_digest (with_feature m id f) ≡ (map_digest (without_feature m id) + entry_hash (id, f)) % 2 ^ 64
+digest_after_put m id f is_map = digest_set m id f is_map.ascending
+
+-- The digest of a map from which a number's feature is taken: less by the hash of its text.
+pub digest_after_delete : (m : FeatureMap) (id : ℕ) (f : FeatureData) → feature_at m id ≡ Some f
+    → map_digest (without_feature m id) ≡ (map_digest m + (2 ^ 64 - entry_hash (id, f))) % 2 ^ 64
+digest_after_delete m id f found = sym (digest_taken m id f found)

@@ -2,6 +2,7 @@ pub mod Below
 mod Allowed
 mod Boxes
 mod Chosen
+pub mod DigestLemmas
 mod Ends
 mod Entries
 mod Finished
@@ -18,6 +19,7 @@ mod Steps
 mod Writable
 pub mod Reading
 mod TilesRead
+mod Totals
 mod Walk
 mod Zooms
 pub mod Laws

@@ -1,7 +1,7 @@
 -- The tiles of a map, one after the other.
 use Rattle.std.proofs.Common.{◌≡◌, ℕ, ◌+◌, ◌*◌, ◌<◌, ◌≤◌, List, [], ◌∷◌, length, refl, sym, ap, subst, ◌∙◌}
 use Rattle.std.proofs.Common.{arith, inl, inr, Bool, true, false, Option, Some, None, IfSome}
-use Rattle.std.specs.Prelude.{◌⊎◌, ◌↔◌, ◌-◌, IsTrue}
+use Rattle.std.specs.Prelude.{◌⊎◌, ◌↔◌, IsTrue}
 use Rattle.std.proofs.lemmas.Bool.{cases_lt, false≢true}
 use Rattle.std.proofs.lemmas.Bool.Decides.{nat_tests}
 use Rattle.feature_model.specs.declared.limits.TheConstants.{MAX_ZOOM}

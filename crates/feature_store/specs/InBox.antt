@@ -1,5 +1,5 @@
 -- The features of a map whose bounding boxes meet a box of the world.
-use Rattle.std.specs.Prelude.{◌≡◌, ℕ, ◌+◌, ◌≤◌, Bool, List, [], ◌∷◌, length, filter, Option, Some, IsSome, option_map}
+use Rattle.std.specs.Prelude.{◌≡◌, ℕ, ◌+◌, ◌≤◌, Bool, [], ◌∷◌, length, filter, Option, Some, IsSome, option_map}
 use Rattle.std.specs.Map.{keys_of}
 use Rattle.box_index.specs.Shown.{meets}
 use Rattle.feature_model.specs.Data.{FeatureData}

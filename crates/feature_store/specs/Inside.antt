@@ -2,6 +2,7 @@
 use Rattle.std.specs.Prelude.{◌≡◌, ℕ, List, All, map}
 use Rattle.feature_model.specs.Data.{FeatureData}
 use Rattle.feature_store.specs.declared.store.Store.TheInside.{Inside}
+use Rattle.feature_store.specs.Digests.{map_digest}
 use Rattle.feature_store.specs.Indexed.{IsIndexedBy, spare_with}
 use Rattle.feature_store.specs.Store.{FeatureMap, StoreView, IsMap}
 
@@ -29,8 +30,9 @@ IsOwn e = e.1.0 ≡ e.0
 abbrev pub store_view : Inside → StoreView
 store_view s = record { features = entries_data s.features.entries; spare = spare_with s.features.spare s.index }
 
--- the index, if there is one, has what the map has
+-- the index, if there is one, has what the map has, and the digest is the map's
 pub record IsStore (s : Inside) : Type 0 where
   pub is_map : IsMap (entries_data s.features.entries)
   pub own : All IsOwn s.features.entries
   pub indexed : IsIndexedBy (entries_data s.features.entries) s.index
+  pub digest : s.digest ≡ map_digest (entries_data s.features.entries)

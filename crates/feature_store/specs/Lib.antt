@@ -2,6 +2,7 @@ pub mod Boxes
 pub mod BoxesInside
 pub mod Chosen
 pub mod Content
+pub mod Digests
 pub mod Ends
 pub mod Gathered
 pub mod Hand

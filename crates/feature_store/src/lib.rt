@@ -4,6 +4,7 @@
 mod all_tiles;
 mod appended;
 mod cutter;
+mod digests;
 mod fault;
 mod feature_boxes;
 mod gathered;

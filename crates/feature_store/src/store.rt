@@ -8,6 +8,7 @@ ghost use Rattle.edit_text.specs.Views.{feature_view};
 ghost use Rattle.number_map.specs.Blocks.{Ascends, joined};
 ghost use Rattle.tile_cutter.specs.WorldBox.{bounding_box};
 ghost use Rattle.feature_store.specs.Content.{IsTileContent};
+ghost use Rattle.feature_store.specs.Digests.{map_digest};
 ghost use Rattle.feature_store.specs.InBox.{IsInBox};
 ghost use Rattle.feature_store.specs.Indexed.{ShowsAll};
 ghost use Rattle.feature_store.specs.Inside.{IsOwn, stored_data, entries_data};
@@ -21,6 +22,7 @@ ghost use Rattle.feature_store.specs.Store.{IsMap, HasRoom, feature_at, box_at, 
 
 use crate::all_tiles::Tiles;
 use crate::cutter::Cutter;
+use crate::digests::{digest_with, digest_without, entry_hash};
 use crate::fault::SnapshotFault;
 use crate::feature_boxes::FeatureBoxes;
 use crate::in_box::{BOX_ENTRIES, InBox, look_at_each};
@@ -50,6 +52,8 @@ use std::marker::Model;
 pub struct Store {
     features: NumberMap<StoredFeature>,
     index: Option<BoxIndex>,
+    /// The sum of the hashes of all texts.
+    digest: u64,
     alloc: Global,
 }
 
@@ -73,6 +77,7 @@ impl Store {
         Store {
             features: NumberMap::new(alloc),
             index: Some(BoxIndex::new(alloc)),
+            digest: 0,
             alloc,
         }
     }
@@ -84,6 +89,7 @@ impl Store {
         Store {
             features: NumberMap::new(alloc),
             index: None,
+            digest: 0,
             alloc,
         }
     }
@@ -106,6 +112,13 @@ impl Store {
         ensures map { IsMap self.now.features }
     {
         self.features.len()
+    }
+
+    /// The digest of the map: the sum of the hashes of its texts, in 64 bits. It is kept, and no text is read.
+    pub fn digest(&self) -> u64
+        ensures { result ≡ map_digest self.now.features }
+    {
+        self.digest
     }
 
     /// The feature with this number, by two binary searches.
@@ -220,8 +233,11 @@ impl Store {
         let id = stored.id();
         let entry = index_entry(id, stored.view());
         let after = entry.span.bounds;
+        let hash = entry_hash(&stored);
         let replaced = self.features.insert(id, stored);
-        let before = set_box(&mut self.index, entry, replaced.as_ref());
+        let old = replaced.as_ref();
+        self.digest = digest_with(self.digest, hash, old);
+        let before = set_box(&mut self.index, entry, old);
         (PlacedBoxes { before, after }, replaced)
     }
 
@@ -273,7 +289,9 @@ impl Store {
         ensures others { (n : ℕ) → n ≢ id → feature_at self.new.features n ≡ feature_at self.old.features n }
     {
         let removed = self.features.remove(id);
-        let bounds = take_box(&mut self.index, id, removed.as_ref());
+        let old = removed.as_ref();
+        self.digest = digest_without(self.digest, old);
+        let bounds = take_box(&mut self.index, id, old);
         (bounds, removed)
     }
 

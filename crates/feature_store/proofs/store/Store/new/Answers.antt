@@ -1,7 +1,8 @@
-use Rattle.std.proofs.Common.{[], arith}
+use Rattle.std.proofs.Common.{[], sym, arith}
 use Rattle.std.proofs.lemmas.List.Elements.{All-nil}
 use Rattle.std.proofs.lemmas.List.Sorted.{IsPermutation-refl}
 use Rattle.number_map.proofs.Entries.{ascends_none}
+use Rattle.feature_store.proofs.DigestLemmas.{digest_none}
 use Rattle.feature_store.proofs.Texts.{none_takes}
 use Rattle.feature_store.proofs.store.Store.new.Goals as goal
 
@@ -11,4 +12,5 @@ invariant_of-result c =
       is_map = record { ascending = ascends_none; edits = All-nil _; short = omega (arith, none_takes) };
       own = All-nil _;
       indexed = IsPermutation-refl [];
+      digest = sym digest_none;
     }
