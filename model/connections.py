@@ -43,7 +43,7 @@ STATUS_OF = {"Head": 400, "Host": 400, "Coding": 501, "Expect": 417, "Length": 4
 
 # A head: its version as its last digit, its fields as pairs of a name in lower case and a value, and how many bytes it has.
 Head = namedtuple("Head", "method target minor fields size")
-Request = namedtuple("Request", "method path fields body close size")
+Request = namedtuple("Request", "method path query fields body close size")
 
 
 class Fault(Exception):
@@ -202,7 +202,8 @@ def request_of(taken, held):
         raise Rejected(rejected.args[0], bare, head.size) from None
     if size > len(held):
         raise Rejected("Short", bare, None)
-    return Request(head.method, head.target.split(b"?")[0], head.fields, held[head.size : size], asks_to_close(head), size)
+    path, _, query = head.target.partition(b"?")
+    return Request(head.method, path, query, head.fields, held[head.size : size], asks_to_close(head), size)
 
 
 # ---- replies
@@ -324,11 +325,13 @@ def checked_batch(service, body):
     return json_reply({"edit": service.batch([as_stored(change) for change in changes])})
 
 
-def numbered_batch(service, number, body):
-    """A batch that is made if it gets this number."""
-    changes = read_body(body, features.body_of)
+def numbered_batch(service, number, request):
+    """A batch that is made if it gets this number, of the map whose digest the query names, if it names one."""
+    changes = read_body(request.body, features.body_of)
     if listings.next_number(service) != number:
         return refusal(409, f"Next {service.last + 1}")
+    if not listings.agrees(service, request.query):
+        return refusal(409, "Digest")
     return json_reply({"edit": service.batch([as_stored(change) for change in changes])})
 
 
@@ -461,12 +464,15 @@ def on_feature(service, number, request, wants):
 
 
 def numbered_feature(service, number, edit, request, wants):
-    """A feature that is set if the edit gets this number. The body is read before the numbers are compared, and then what is there is looked at."""
+    """A feature that is set if the edit gets this number. The body is read before the numbers are compared, then the digests, and then what is there is
+    looked at."""
     if wants == "never":
         return refusal(412, "Condition")
     change = as_stored(Change(number, read_body(request.body, features.feature_of)))
     if listings.next_number(service) != edit:
         return refusal(409, f"Next {service.last + 1}")
+    if not listings.agrees(service, request.query):
+        return refusal(409, "Digest")
     if not meets(wants, number in service.map):
         return refusal(412, "Condition")
     return json_reply({"edit": service.put(*change)})
@@ -520,7 +526,7 @@ def reply_to(service, request, is_admin):
         if name == "checked":
             return checked_batch(service, request.body)
         if name == "numbered":
-            return numbered_batch(service, numbers[0], request.body)
+            return numbered_batch(service, numbers[0], request)
         if name == "numbered feature":
             return numbered_feature(service, *numbers, request, wants)
         if name == "page":

@@ -48,7 +48,8 @@ def edits_from(service, number):
     except Failed as failed:
         raise Refused("Device") from failed
     edits = [{"changes": [asked(change) for change in record.changes], "edit": number + index} for index, record in enumerate(listed)]
-    return {"edits": edits, "last": service.last}
+    told = {"digest": service.digest()} if number + len(listed) == service.last + 1 else {}
+    return {**told, "edits": edits, "last": service.last}
 
 
 # ---- pages of features
@@ -81,3 +82,9 @@ def next_number(service):
     if service.last == 2**64 - 1:
         raise Refused("NumbersSpent")
     return service.last + 1
+
+
+def agrees(service, query):
+    """Whether a query names no other digest than that of the map: what comes after `after=` in a part of it is that, to the letter."""
+    named = [part.partition(b"=")[2] for part in query.split(b"&") if part.startswith(b"after=")]
+    return all(digest == service.digest().encode() for digest in named)

@@ -1,5 +1,6 @@
 """A model of a service on a disk: the answer to each call and the calls of the disk that it makes, from docs/FORMATS.md, docs/HTTP.md and
 docs/DECISIONS.md. It shares no code with the product."""
+import functools
 import json
 from collections import namedtuple
 
@@ -21,6 +22,20 @@ SYNC_SECTORS = 512
 BEGUN = object()
 # How many features a step of a draft reads, and how many are in a part of a tile.
 READ_AT_ONCE, FEATURES_OF_A_PART = 256, 32
+
+
+@functools.lru_cache(1 << 16)
+def hash_of(text):
+    """FNV-1a with 64 bits, as published."""
+    held = 0xCBF29CE484222325
+    for byte in text:
+        held = (held ^ byte) * 0x100000001B3 % 2**64
+    return held
+
+
+def digest_of(found):
+    """The digest of a map in hex: the sum of the hashes of the texts that put its features."""
+    return "%016x" % (sum(hash_of(text_of(Change(number, feature))) for number, feature in found.items()) % 2**64)
 
 
 class Refused(Exception):
@@ -478,6 +493,9 @@ class Service:
         self.boxes = [(number, box) for number, box in self.boxes if number > self.root.edits]
         return len(set().union(*(squares_of(box) for _, box in self.boxes)))
 
+    def digest(self):
+        return digest_of(self.map)
+
     def status(self):
         """What the service tells of itself."""
         layout, root, going = self.layout, self.root, self.publication
@@ -486,6 +504,7 @@ class Service:
             "area": {"sectors": layout.area, "used": whole_sectors(root.snapshot_len) + whole_sectors(root.archive_len)},
             "broken": self.broken,
             "cells": SQUARES**2,
+            "digest": self.digest(),
             "drafting": {"made": self.draft.made, "places": self.draft.moment.used} if self.draft else None,
             "edits": self.last,
             "features": len(self.map),

@@ -2,7 +2,7 @@
 only if they get a number."""
 import tiles
 from connections import MAX_BODY
-from reply_admin import LAST, METHODS, NO_NUMBERS, batch_of, get
+from reply_admin import LAST, METHODS, NO_NUMBERS, STATUS, batch_of, get
 from reply_edits import deletes, sets
 from reply_stand import BEGIN, BODY, CANCEL, PUBLISH, STEP, WORLD, Often, large_put, put, request, spelled, spelled_parts, tagged, with_point
 
@@ -245,4 +245,86 @@ def numbered_features(script):
     script.ask(*(set_at(number, number) for number in range(1, 19)), PUBLISH, set_at(17, 17), set_at(18, 18), *edits(17))
 
 
-BLOCKS = [who_may_ask, listed, published, ring, versions, bounds, failing, broken, paged, page_bounds, numbered, numbered_features]
+def after(digest, asked):
+    """A request whose query names the digest of the map that it is to change."""
+    line, end, rest = asked.partition(b" HTTP/1.1")
+    return line + b"?after=" + digest.encode() + end + rest
+
+
+def digests(script):
+    script.say("Digests: of an empty map, after each kind of edit, and the same for the same features, whatever came before.")
+    begin(script)
+    ask = lambda: script.ask(*get(STATUS), *edits(script.stand.service.last + 1, 1))  # noqa: E731
+    ask()
+    for made in (put(7), put(8, ODD), put(7, ODD), put(7), request("DELETE", "/features/8"), batch_of([0, LAST]), at(6, deletes(0), deletes(LAST)),
+                 set_at(7, 7, ODD), request("PUT", "/features/7", b"{"), set_at(7, 9), request("DELETE", "/features/9")):
+        script.ask(made)
+        ask()
+    script.note("After a publication, in one, and once the disk is opened again.")
+    script.ask(PUBLISH)
+    ask_last = lambda: script.ask(*get(STATUS), *edits(script.stand.service.last + 1))  # noqa: E731
+    ask_last()
+    script.ask(BEGIN, put(9), STEP)
+    ask_last()
+    for kind in ("", "lost"):
+        script.admin(kind, 2 if kind else 0)
+        script.ask(put(10))
+        ask_last()
+    script.admin()
+    ask_last()
+    script.note("A list that ends before the last edit tells none: of edits of 16,000 bytes, from each number on.")
+    begin(script, 4096)
+    for letters in (990, 991, 992):
+        script.ask(*tagged(letters, 1))
+    script.ask(*(part for number in range(3) for part in large_put(number)))
+    script.ask(*edits(*range(1, 8)), sizes="4096")
+
+
+def under_digests(script):
+    script.say("Edits that are made of a map of one digest, by both paths: with the right digest, a wrong one, and what is none.")
+    begin(script)
+    digest = lambda: script.stand.service.digest()  # noqa: E731
+    number = lambda: script.stand.service.last + 1  # noqa: E731
+    for make in (lambda edit: at(edit, sets(edit), deletes(edit - 1)) if edit > 1 else at(edit, sets(edit)), lambda edit: set_at(edit, edit, ODD)):
+        for sizes in ("4096", "1"):
+            right = digest()
+            wrong = "%016x" % (int(right, 16) ^ 1)
+            for word in (wrong, right[:15], right + "0", "", "0" * 16 if right != "0" * 16 else "1" * 16, "x" * 16, wrong.upper(), right + "&after=" + wrong,
+                         wrong + "&after=" + right, right + "&x&after="):
+                script.ask(after(word, make(number())), sizes=sizes)
+            script.ask(*edits(number()))
+            for word in (right, "%s&after=%s", "%s&x=1", "%s&&afterwards=1", "%s&after"):
+                script.ask(after(word.replace("%s", digest()), make(number())), sizes=sizes)
+            script.ask(after(right, make(number())), *get(STATUS), sizes=sizes)
+    script.note("A digest behind other words; upper case is another digest; a path that makes no numbered edit looks at none.")
+    script.ask(request("POST", f"{AT}{number()}?x&after={digest()}&y", spelled({"changes": [sets(1)]})))
+    script.ask(request("POST", f"{AT}{number()}?x&after=0&y", spelled({"changes": [sets(2)]})))
+    script.ask(after(digest().upper(), at(number(), sets(3))))
+    script.ask(*(after("0", made) for made in (put(4), request("DELETE", "/features/4"), batch_of([4, 5]), *get(STATUS, FEED + "1"), PUBLISH)))
+    script.note("The faults of a body come first, then a wrong number, then the digest; and then what the service refuses.")
+    for digits in (digest(), "0"):
+        script.ask(*(after(digits, request("POST", AT + str(edit), body)) for edit in (number(), number() + 1) for body in (b"{", b"{}", b'{"changes":[]}')))
+        script.ask(*(after(digits, made) for made in (at(number() + 1, sets(1)), at(number() - 1, sets(1)), at(number(), deletes(999)))))
+        script.ask(*(after(digits, made) for made in (set_at(1, number() + 1), request("PUT", f"/admin/features/1/at/{number()}", b"{"))))
+    script.note("Before conditions on the feature, where replies have tags.")
+    script.tags(5)
+    script.admin()
+    for digits in ("0", digest()):
+        for field in ("if-none-match: *", "if-match: x", "if-match: *"):
+            script.ask(after(digits, set_at(1, number(), None, field)))
+    script.tags()
+    script.note("After a publication, in one, once the disk is opened again, and of a service that is broken.")
+    script.ask(PUBLISH, after("0", at(number(), sets(6))), after(digest(), at(number(), sets(6))))
+    script.ask(BEGIN, after("0", set_at(7, number())), after(digest(), set_at(7, number())), STEP)
+    script.admin()
+    script.ask(after("0", at(number(), sets(8))), after(digest(), at(number(), sets(8))))
+    script.admin("lost", 2)
+    script.ask(put(9), after("0", at(number(), sets(9))), after(digest(), at(number(), sets(9))), *get(STATUS))
+    script.note("A full journal.")
+    begin(script, 64)
+    for edit in range(1, 18):
+        script.ask(after(digest(), set_at(edit, edit)))
+    script.ask(after("0", set_at(17, number())), PUBLISH, after(digest(), set_at(17, number())))
+
+
+BLOCKS = [who_may_ask, listed, published, ring, versions, bounds, failing, broken, paged, page_bounds, numbered, numbered_features, digests, under_digests]

@@ -86,9 +86,9 @@ EXAMPLES = [
     (request("PUT", "/features/7", BODY.replace(b'"minzoom":0', b'"minzoom":3')), found("text/plain", "E4 Zoom\n", "400 Bad Request")),
     (request("GET", "/admin/features/from/8"), found(JSON, f'{{"feature":{SHOWN},"id":8}}')),
     (request("GET", "/admin/features/from/9"), found("text/plain", "NotFound\n", "404 Not Found")),
-    (request("GET", "/admin/status"), found(JSON, '{"archive":223,"area":{"sectors":94,"used":2},"broken":false,"cells":1024,"drafting":null,"edits":4,"features":2,'
-                                                  '"generation":2,"journal":{"forgotten":0,"places":64,"used":3},"last":8,"left":null,"published":1,"sectors":256,'
-                                                  '"stale":1,"version":2}')),
+    (request("GET", "/admin/status"), found(JSON, '{"archive":223,"area":{"sectors":94,"used":2},"broken":false,"cells":1024,"digest":"ac3e626469fc4803",'
+                                                  '"drafting":null,"edits":4,"features":2,"generation":2,"journal":{"forgotten":0,"places":64,"used":3},"last":8,'
+                                                  '"left":null,"published":1,"sectors":256,"stale":1,"version":2}')),
     (request("POST", "/admin/edits", b'{"changes":[{"delete":8,"was":null}]}'), found("text/plain", "Changed 8\n", "409 Conflict")),
     (request("POST", "/admin/edits", b'{"changes":[{"delete":8,"was":%s}]}' % BODY), found(JSON, '{"edit":5}')),
     (b"GET /map/0", found("text/plain", "Head\n", "400 Bad Request").replace(b"\r\n\r\n", b"\r\nconnection: close\r\n\r\n")),

@@ -22,6 +22,7 @@ def status(**changes):
         "area": {"sectors": 1534, "used": 0},
         "broken": False,
         "cells": 1024,
+        "digest": "0" * 16,
         "drafting": None,
         "edits": 0,
         "features": 0,
@@ -85,7 +86,15 @@ def statuses(cases, server):
     url = server.url
     same(cases, "status: a fresh disk", curl(url + STATUS), status())
     curl(url + "/features/7", "-X", "PUT", body=feature())
-    one = {"edits": 1, "features": 1, "journal": {"forgotten": 0, "places": 1024, "used": 1}, "last": 7, "stale": 1}
+    one = {
+        # FNV-1a of 01 0700000000000000 01 70 00 02 01 0100 00000000 00000000 00, by FORMATS.md.
+        "digest": "164ec7bd7bb02f5a",
+        "edits": 1,
+        "features": 1,
+        "journal": {"forgotten": 0, "places": 1024, "used": 1},
+        "last": 7,
+        "stale": 1,
+    }
     same(cases, "status: an edit", curl(url + STATUS), status(**one))
     curl(url + "/publish/begin", "-X", "POST")
     same(cases, "status: a publication under way", curl(url + STATUS), status(**one, left=3))
@@ -102,7 +111,7 @@ def statuses(cases, server):
     same(cases, "status: it is installed", curl(url + STATUS), status(**done))
     curl(url + "/features/7", "-X", "DELETE")
     used = {"forgotten": 0, "places": 1024, "used": 1}
-    empty = {**done, "edits": 2, "features": 0, "journal": used, "last": None, "stale": 1}
+    empty = {**done, "digest": "0" * 16, "edits": 2, "features": 0, "journal": used, "last": None, "stale": 1}
     same(cases, "status: nothing is left of the map", curl(url + STATUS), status(**empty))
     same(
         cases,

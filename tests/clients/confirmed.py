@@ -164,7 +164,7 @@ def held(cases: Cases, server: Server) -> None:
         cases.show(
             "who asks without being a standby confirms nothing",
             (plain[2], one.content()),
-            (b'{"edits":[],"last":1}', None),
+            (none_after(server, 1).encode(), None),
         )
         beyond = confirm(server, 6)
         cases.show("nor does who has more edits than there are", (beyond[0].split()[1], one.content()), ("404", None))
@@ -220,6 +220,11 @@ def more_edits(cases: Cases, server: Server) -> None:
         cases.show("who hangs up: the edit is made", edits(server), 7)
 
 
+def none_after(server: Server, last: int) -> str:
+    """The list of the edits after the last one."""
+    return f'{{"digest":"{known(server)["digest"]}","edits":[],"last":{last}}}'
+
+
 def resting(cases: Cases, server: Server) -> None:
     """Requests for edits that wait."""
     with contextlib.ExitStack() as stack:
@@ -233,17 +238,18 @@ def resting(cases: Cases, server: Server) -> None:
         other.send(asks(9, "?standby&wait=30"))
         cases.show("one standby is enough", editor.content(5), '{"edit":8}')
         began = time.monotonic()
-        cases.show("a standby waits two seconds", other.content(9), '{"edits":[],"last":8}')
+        none = none_after(server, 8)
+        cases.show("a standby waits two seconds", other.content(9), none)
         cases.show("not less, not more", 1.8 < time.monotonic() - began < 4, True)
         began = time.monotonic()
         cases.show(
             "another for as long as it says",
             peer(stack, server, asks(9, "?wait=1")).content(9),
-            '{"edits":[],"last":8}',
+            none,
         )
         cases.show("for a second", 0.9 < time.monotonic() - began < 3, True)
         for text in ("", "?wait=0", "?wait=x", "?wait=", "?wait", "?waits=9", "?wait=99999999999999999999"):
-            cases.show(f"no wait: {text}", peer(stack, server, asks(9, text)).content(5), '{"edits":[],"last":8}')
+            cases.show(f"no wait: {text}", peer(stack, server, asks(9, text)).content(5), none)
         cases.show("HEAD doesn't wait", peer(stack, server, ("HEAD", "/admin/edits/from/9?wait=9", "")) and
                    status_line(curl(server.url + "/admin/edits/from/9?wait=9", "-I")), "200")
         late = peer(stack, server, asks(9, "?wait=30"), ("GET", "/admin/edits/from/9", ""))

@@ -26,7 +26,7 @@ use Rattle.http_serve.specs.declared.replies.Tag.{Tag}
 use Rattle.http_serve.specs.declared.replies.EntityTag.{EntityTag}
 use Rattle.map_replies.specs.Conditions.{AskView, refuses, needed}
 use Rattle.map_replies.specs.Bodies.{CheckedEdit}
-use Rattle.map_replies.specs.Meanings.{IfNext, MeansBody, MeansIf, MeansEdit, MeansChecked, MeansNumbered, MeansPart, MeansJudged, MeansArchive, MeansTile}
+use Rattle.map_replies.specs.Meanings.{IfNext, IfAgrees, MeansBody, MeansIf, MeansEdit, MeansChecked, MeansNumbered, MeansNumberedChange, MeansPart, MeansJudged, MeansArchive, MeansTile}
 use Rattle.map_replies.specs.Meanings.{MeansBox, MeansPage, MeansList, MeansOnFeature, MeansView, MeansAction, MeansAllowed, MeansMethod, UnlessRefused, looks}
 use Rattle.map_replies.specs.Pages.{Entry, looks_from}
 use Rattle.map_replies.specs.Preparing.{asks_to_publish, calls_publication, AreMeanwhile, IsMeanwhile}
@@ -133,15 +133,20 @@ checked_apart failed version e reply happenings (inl is) = subst AreApart (sym i
 checked_apart failed version e reply happenings (inr is) = subst AreApart (sym is.7)
     (looks_apart is.0 (look is.1.id (got is.3) ∷ []) (tt, tt))
 
-numbered_apart : (failed : Type 0) (old : Status) (number : ℕ) (cs : EditData) → AllApart (MeansNumbered failed old number cs)
-numbered_apart failed old number cs reply happenings (inl is) = edit_apart failed batched (recorded_in old.version cs) reply happenings is.1
-numbered_apart failed old number cs reply happenings (inr is) = none happenings is.2
+next_apart : (old : Status) (query : List ℕ) (number : ℕ) (IsMeant : ReplyView → List Happening → Type 0) → AllApart IsMeant
+    → AllApart (IfNext old number (IfAgrees old query IsMeant))
+next_apart old query number IsMeant each reply happenings (inl (next, inl is)) = each reply happenings is.1
+next_apart old query number IsMeant each reply happenings (inl (next, inr is)) = none happenings is.1.1
+next_apart old query number IsMeant each reply happenings (inr is) = none happenings is.2
 
-numbered_put_apart : (failed : Type 0) (old : Status) (n : Needed) (id number : ℕ) (f : FeatureData)
-    → AllApart (IfNext old number (MeansIf n id (MeansEdit failed (edit single (recorded_change old.version (put id f))))))
-numbered_put_apart failed old n id number f reply happenings (inl is) =
-    if_apart n id _ (edit_apart failed single (recorded_change old.version (put id f))) reply happenings is.1
-numbered_put_apart failed old n id number f reply happenings (inr is) = none happenings is.2
+numbered_apart : (failed : Type 0) (old : Status) (query : List ℕ) (number : ℕ) (cs : EditData) → AllApart (MeansNumbered failed old query number cs)
+numbered_apart failed old query number cs reply happenings is =
+    next_apart old query number _ (edit_apart failed batched (recorded_in old.version cs)) reply happenings is
+
+numbered_put_apart : (failed : Type 0) (old : Status) (query : List ℕ) (n : Needed) (id number : ℕ) (f : FeatureData)
+    → AllApart (MeansNumberedChange failed old query n id number f)
+numbered_put_apart failed old query n id number f reply happenings is =
+    next_apart old query number _ (if_apart n id _ (edit_apart failed single (recorded_change old.version (put id f)))) reply happenings is
 
 part_apart : (failed : Type 0) (total : ℕ) (tag : Option Tag) (part : ArchiveRange) → AllApart (MeansPart failed total tag part)
 part_apart failed total tag Beyond reply happenings is = none happenings is.1
@@ -199,9 +204,9 @@ allowed_apart failed old new (asked_page id) method ask body other reply happeni
 allowed_apart failed old new (asked_box bounds id) method ask body other reply happenings is = box_apart bounds id reply happenings is
 allowed_apart failed old new (asked_edits number) method ask body other reply happenings is = listed_apart failed old number reply happenings is
 allowed_apart failed old new (asked_numbered number) method ask body other reply happenings is =
-    body_apart _ _ _ (numbered_apart failed old number) reply happenings is
+    body_apart _ _ _ (numbered_apart failed old ask.query number) reply happenings is
 allowed_apart failed old new (asked_numbered_feature id number) method ask body other reply happenings is =
-    body_apart _ _ _ (numbered_put_apart failed old (needed ask) id number) reply happenings is
+    body_apart _ _ _ (numbered_put_apart failed old ask.query (needed ask) id number) reply happenings is
 allowed_apart failed old new (asked_view view) method ask body other reply happenings is = view_apart failed old new view method ask reply happenings is
 allowed_apart failed old new (asked_action action) method ask body other reply happenings is =
     action_apart failed old new action body other reply happenings is

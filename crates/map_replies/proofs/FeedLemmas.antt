@@ -1,6 +1,6 @@
 -- Edits are written one after the other.
 use Rattle.std.proofs.Common.{◌≡◌, inl, inr, ℕ, suc, ◌<◌, ◌≤◌, ◌+◌, List, [], ◌∷◌, ◌++◌, length, map, take, drop, get_or, refl, sym, ap, subst, ◌∙◌, arith}
-use Rattle.std.specs.Prelude.{nat_lt, Bool}
+use Rattle.std.specs.Prelude.{nat_lt, Bool, Option}
 use Rattle.std.proofs.lemmas.Bool.Decides.{nat_tests}
 use Rattle.std.proofs.lemmas.List.{map-append, append-nil, map_more, take_all, length-take-le, length-map, take-append-drop}
 use Rattle.std.proofs.lemmas.List.Elements.{All-nil}
@@ -19,7 +19,7 @@ use Rattle.tile_service.specs.Replayed.{IsRecordFor, AreRecordsFor}
 use Rattle.tile_service.specs.Stored.{record_for}
 use Rattle.tile_service.proofs.Disk.Replayed.{with_one, none_replayed}
 use Rattle.map_replies.specs.declared.fault.RequestFault.{RequestFault}
-use Rattle.map_replies.specs.Feed.{listed_edit, edit_texts, listed_edits, changes_of, IsTextFault, IsListFault}
+use Rattle.map_replies.specs.Feed.{listed_edit, edit_texts, listed_edits, changes_of, digest_at, feed_text, feed_body, IsTextFault, IsListFault}
 use Rattle.map_replies.specs.Lists.{comma_if, joined}
 use Rattle.map_replies.proofs.ListLemmas.{are_some, joined_on}
 
@@ -94,6 +94,18 @@ so_far_more first xs i x number more before middle after lt is number_is more_is
           (ap (λ (k : ℕ). edit_texts first (changes_of edits) ++ listed_edit k e.changes ∷ []) count
           ∙ sym (texts_push first (changes_of edits) e.changes)
           ∙ ap (edit_texts first) (sym (map-append (λ (f : RecordedEdit). f.changes) edits (e ∷ [])))),
+    )
+
+-- the text of some records' edits, with the digest that is told if so many edits end with the last one
+pub body_told : (first last digest : ℕ) (records : List RecordData) (count : ℕ) (told : Option ℕ) (text : List ℕ) → count ≡ length records
+    → told ≡ digest_at (first + count) last digest
+    → (edits : List RecordedEdit) × AreRecordsFor records edits × (text ≡ feed_text told first (changes_of edits) last)
+    → (edits : List RecordedEdit) × AreRecordsFor records edits × (text ≡ feed_body first (changes_of edits) last digest)
+body_told first last digest records count told text many is (edits, are, same) =
+    let counted : count ≡ length (changes_of edits) = many ∙ sym (edit_count records edits are) in (
+      edits,
+      are,
+      same ∙ ap (λ (o : Option ℕ). feed_text o first (changes_of edits) last) (is ∙ ap (λ (n : ℕ). digest_at (first + n) last digest) counted),
     )
 
 -- a record of no edit is none of edits' records

@@ -110,15 +110,17 @@ module _ {D : Type 0} (sectors : D → ℕ) (honest : D → Type 0) (history : D
       let same : new ≡ old = subst (λ (h : List Happening). TakesAll sectors honest history old h new) none takes in
       subst (λ (s : ServiceView D). HasFirstEdits m first edits s.features s.journal.last) (sym same) has
 
-  said_next : (failed : Type 0) (m : FeatureMap) (first : ℕ) (edits : List EditData) (number : ℕ) (cs : EditData) (reply : ReplyView)
+  said_next : (failed : Type 0) (m : FeatureMap) (first : ℕ) (edits : List EditData) (query : List ℕ) (number : ℕ) (cs : EditData) (reply : ReplyView)
       (happenings : List Happening) (old new : ServiceView D) → HasFirstEdits m first edits old.features old.journal.last
-      → IsEditOf first edits number cs → MeansNumbered failed (status_of old) number cs reply happenings
+      → IsEditOf first edits number cs → MeansNumbered failed (status_of old) query number cs reply happenings
       → TakesAll sectors honest history old happenings new → HasFirstEdits m first edits new.features new.journal.last
-  said_next failed m first edits number cs reply happenings old new has is (inl (next, asked)) takes =
+  said_next failed m first edits query number cs reply happenings old new has is (inl (next, inl (agreed, asked))) takes =
       let all = subst (λ (h : List Happening). TakesAll sectors honest history old h new) asked.3 takes in
       subst (λ (s : ServiceView D). HasFirstEdits m first edits s.features s.journal.last) (sym all.2)
       (asked_next m first edits old all.0 cs asked.0 has (subst (λ (n : ℕ). IsEditOf first edits n cs) next is) all.1)
-  said_next failed m first edits number cs reply happenings old new has is (inr other) takes =
+  said_next failed m first edits query number cs reply happenings old new has is (inl (next, inr other)) takes =
+      none_happened m first edits old new happenings has other.1.1 takes
+  said_next failed m first edits query number cs reply happenings old new has is (inr other) takes =
       none_happened m first edits old new happenings has other.2 takes
 
   -- a body says one list of changes
@@ -134,16 +136,16 @@ module _ {D : Type 0} (sectors : D → ℕ) (honest : D → Type 0) (history : D
       some_is same = ap value_in same
 
   -- whatever the reply to the leader's edit is, the standby has the leader's map after its first edits
-  pub keeps_first_edits : (failed : Type 0) (m : FeatureMap) (first : ℕ) (edits : List EditData) (number : ℕ) (body : List ℕ) (reply : ReplyView)
-      (happenings : List Happening) (old new : ServiceView D) → HasFirstEdits m first edits old.features old.journal.last
-      → SaysEditOf first edits number body → MeansNumberedBatch failed (status_of old) number body reply happenings
+  pub keeps_first_edits : (failed : Type 0) (m : FeatureMap) (first : ℕ) (edits : List EditData) (query : List ℕ) (number : ℕ) (body : List ℕ)
+      (reply : ReplyView) (happenings : List Happening) (old new : ServiceView D) → HasFirstEdits m first edits old.features old.journal.last
+      → SaysEditOf first edits number body → MeansNumberedBatch failed (status_of old) query number body reply happenings
       → TakesAll sectors honest history old happenings new → HasFirstEdits m first edits new.features new.journal.last
-  keeps_first_edits failed m first edits number body reply happenings old new has says (inl (cs, said, means)) takes =
-      said_next failed m first edits number cs reply happenings old new has
+  keeps_first_edits failed m first edits query number body reply happenings old new has says (inl (cs, said, means)) takes =
+      said_next failed m first edits query number cs reply happenings old new has
       (subst (IsEditOf first edits number) (one_said body says.0 cs says.1 said) says.2) means takes
-  keeps_first_edits failed m first edits number body reply happenings old new has says (inr (inl refused)) takes =
+  keeps_first_edits failed m first edits query number body reply happenings old new has says (inr (inl refused)) takes =
       none_happened m first edits old new happenings has refused.2.1 takes
-  keeps_first_edits failed m first edits number body reply happenings old new has says (inr (inr refused)) takes =
+  keeps_first_edits failed m first edits query number body reply happenings old new has says (inr (inr refused)) takes =
       none_happened m first edits old new happenings has refused.1 takes
 
 -- ---- the feed

@@ -12,19 +12,20 @@ use Rattle.map_replies.specs.declared.conditions.Judged.TheVariants.{Holds, Fail
 use Rattle.map_replies.specs.declared.conditions.Needed.{Needed}
 use Rattle.map_replies.specs.declared.conditions.Needed.TheVariants.{Free, There, Absent, Unmet}
 
--- The header fields of a request, and the number that tags of tiles begin with. Without such a number replies have no entity tags, and no
+-- The header fields and the query of a request, and the number that tags of tiles begin with. Without such a number replies have no entity tags, and no
 -- condition on tags is looked at: its field is one of many that say nothing here.
 pub record AskView : Type 0 where
   pub fields : List NamedValue
+  pub query : List ℕ
   pub tags : Option ℕ
 
 -- what a request asks
 abbrev pub ask_of : (tags : Option ℕ) → RequestView → AskView
-ask_of tags request = record { fields = request.fields; tags = tags }
+ask_of tags request = record { fields = request.fields; query = request.query; tags = tags }
 
 -- the same, as the program has it
 abbrev pub ask_view : Ask → AskView
-ask_view ask = record { fields = ask.fields.now; tags = ask.tags }
+ask_view ask = record { fields = ask.fields.now; query = ask.query.now; tags = ask.tags }
 
 -- ---- ranges
 

@@ -2,6 +2,7 @@ pub mod Bodies
 pub mod BoxPages
 pub mod Conditions
 pub mod Confirming
+pub mod Digests
 pub mod Feed
 pub mod Lists
 pub mod Meanings

@@ -43,7 +43,7 @@ use Rattle.tile_service.specs.declared.status.Status.{Status}
 use Rattle.tile_service.specs.declared.fault.ServiceFault.{ServiceFault}
 use Rattle.tile_service.specs.declared.fault.ServiceFault.TheVariants.{Device}
 use Rattle.map_replies.specs.declared.fault.RequestFault.{RequestFault}
-use Rattle.map_replies.specs.declared.fault.RequestFault.TheVariants.{NotFound, Condition, Gone, Memory, Device as DeviceFailed, Damaged}
+use Rattle.map_replies.specs.declared.fault.RequestFault.TheVariants.{NotFound, Condition, Digest, Gone, Memory, Device as DeviceFailed, Damaged}
 use Rattle.map_replies.specs.declared.parts.ArchiveRange.{ArchiveRange}
 use Rattle.map_replies.specs.declared.parts.ArchiveRange.TheVariants.{Beyond}
 use Rattle.edit_json.specs.Json.{json_of}
@@ -54,6 +54,7 @@ use Rattle.map_replies.specs.declared.conditions.Needed.TheVariants.{Free}
 use Rattle.map_replies.specs.declared.conditions.Judged.{Judged}
 use Rattle.map_replies.specs.declared.conditions.Judged.TheVariants.{Holds, Fails, Unchanged}
 use Rattle.map_replies.specs.BoxPages.{IsBoxPage}
+use Rattle.map_replies.specs.Digests.{agrees}
 use Rattle.map_replies.specs.Feed.{changes_of, feed_body}
 use Rattle.map_replies.specs.declared.feed.TheConstants.{FEED_BYTES}
 use Rattle.map_replies.specs.Parts.{IsPart, start_of, size_of, archive_tag, shown_tag, part_reply, unchanged_reply, bytes_reply}
@@ -157,18 +158,31 @@ abbrev pub IfNext : (old : Status) → ℕ → (ReplyView → List Happening →
 IfNext old number IsMeant reply happenings = ((number ≡ old.edits + 1) × IsMeant reply happenings)
     ⊎ ((number ≢ old.edits + 1) × (reply ≡ not_next_reply old.edits) × (happenings ≡ []))
 
--- the changes are made as one edit, if that gets the number
-abbrev pub MeansNumbered : (failed : Type 0) → (old : Status) → ℕ → EditData → ReplyView → List Happening → Type 0
-MeansNumbered failed old number cs = IfNext old number (MeansEdit failed (edit batched (recorded_in old.version cs)))
+-- An edit is asked for if the query agrees with the map's digest. If it names another one, nothing happens.
+abbrev pub IfAgrees : (old : Status) → (query : List ℕ) → (ReplyView → List Happening → Type 0) → ReplyView → List Happening → Type 0
+IfAgrees old query IsMeant reply happenings = ((agrees query old.digest ≡ true) × IsMeant reply happenings)
+    ⊎ ((agrees query old.digest ≡ false) × MeansRefusal Digest reply happenings)
+
+-- the changes are made as one edit, if that gets the number and the query agrees with the map
+abbrev pub MeansNumbered : (failed : Type 0) → (old : Status) → (query : List ℕ) → ℕ → EditData → ReplyView → List Happening → Type 0
+MeansNumbered failed old query number cs =
+    IfNext old number (IfAgrees old query (MeansEdit failed (edit batched (recorded_in old.version cs))))
 
 -- the same of the changes of the body
-abbrev pub MeansNumberedBatch : (failed : Type 0) → (old : Status) → ℕ → List ℕ → ReplyView → List Happening → Type 0
-MeansNumberedBatch failed old number body = MeansBody (SaysChanges body) (HasBatchFault body) (MeansNumbered failed old number)
+abbrev pub MeansNumberedBatch : (failed : Type 0) → (old : Status) → (query : List ℕ) → ℕ → (body : List ℕ) → ReplyView → List Happening → Type 0
+MeansNumberedBatch failed old query number body = MeansBody (SaysChanges body) (HasBatchFault body) (MeansNumbered failed old query number)
 
--- the feature of the body is set, if that edit gets the number
-abbrev pub MeansNumberedPut : (failed : Type 0) → (old : Status) → Needed → (id number : ℕ) → List ℕ → ReplyView → List Happening → Type 0
-MeansNumberedPut failed old needed id number body = MeansBody (SaysFeature body) (HasBodyFault body)
-    (λ (f : FeatureData). IfNext old number (MeansIf needed id (MeansEdit failed (edit single (recorded_change old.version (put id f))))))
+-- the feature of an id is set, if that edit gets the number, and the query agrees with the map
+abbrev pub MeansNumberedChange : (failed : Type 0) → (old : Status) → (query : List ℕ) → Needed → (id number : ℕ) → FeatureData
+    → ReplyView → List Happening → Type 0
+MeansNumberedChange failed old query needed id number f =
+    IfNext old number (IfAgrees old query (MeansIf needed id (MeansEdit failed (edit single (recorded_change old.version (put id f))))))
+
+-- the same of the feature of the body
+abbrev pub MeansNumberedPut : (failed : Type 0) → (old : Status) → (query : List ℕ) → Needed → (id number : ℕ) → (body : List ℕ)
+    → ReplyView → List Happening → Type 0
+MeansNumberedPut failed old query needed id number body =
+    MeansBody (SaysFeature body) (HasBodyFault body) (MeansNumberedChange failed old query needed id number)
 
 -- ---- a whole publication
 
@@ -241,26 +255,26 @@ MeansTile (Some start) fields z x y format = MeansTagged start fields z x y form
 -- ---- edits that are listed
 
 -- The reply to what was read of the edits from a number on: they are listed with their numbers, and the number of the last edit of all is
--- told. Damaged: the disk gives something else than records of edits.
-abbrev pub ListedAs : (failed : Type 0) → (last number : ℕ) → Result (List RecordData) JournalFault → ReplyView → Type 0
-ListedAs failed last number (Ok records) reply =
-    ((edits : List RecordedEdit) × AreRecordsFor records edits × (reply ≡ json_reply (feed_body number (changes_of edits) last)))
+-- told, and the digest of the map after it if the list ends with it. Damaged: the disk gives something else than records of edits.
+abbrev pub ListedAs : (failed : Type 0) → (last digest number : ℕ) → Result (List RecordData) JournalFault → ReplyView → Type 0
+ListedAs failed last digest number (Ok records) reply =
+    ((edits : List RecordedEdit) × AreRecordsFor records edits × (reply ≡ json_reply (feed_body number (changes_of edits) last digest)))
     ⊎ (reply ≡ refusal_of Memory) ⊎ (((edits : List RecordedEdit) → ¬ AreRecordsFor records edits) × (reply ≡ refusal_of Damaged))
-ListedAs failed last number (Err journals.Device) reply = failed × (reply ≡ refusal_of DeviceFailed)
-ListedAs failed last number (Err journals.Memory) reply = reply ≡ refusal_of Memory
-ListedAs failed last number (Err journals.Damaged) reply = reply ≡ refusal_of Damaged
-ListedAs failed last number (Err fault) reply = ⊥
+ListedAs failed last digest number (Err journals.Device) reply = failed × (reply ≡ refusal_of DeviceFailed)
+ListedAs failed last digest number (Err journals.Memory) reply = reply ≡ refusal_of Memory
+ListedAs failed last digest number (Err journals.Damaged) reply = reply ≡ refusal_of Damaged
+ListedAs failed last digest number (Err fault) reply = ⊥
 
 -- the edits from a number on are read
-abbrev pub MeansFound : (failed : Type 0) → (last number : ℕ) → ReplyView → List Happening → Type 0
-MeansFound failed last number reply happenings = (outcome : Result (List RecordData) JournalFault)
-    × ListedAs failed last number outcome reply × (happenings ≡ list_edits number FEED_BYTES outcome ∷ [])
+abbrev pub MeansFound : (failed : Type 0) → (last digest number : ℕ) → ReplyView → List Happening → Type 0
+MeansFound failed last digest number reply happenings = (outcome : Result (List RecordData) JournalFault)
+    × ListedAs failed last digest number outcome reply × (happenings ≡ list_edits number FEED_BYTES outcome ∷ [])
 
 -- The edits from a number on are asked for. Those that newer ones have overwritten are gone, and there are none from behind the next one on.
 abbrev pub MeansList : (failed : Type 0) → (old : Status) → ℕ → ReplyView → List Happening → Type 0
 MeansList failed old number reply happenings = ((number ≤ old.forgotten) × MeansRefusal Gone reply happenings)
     ⊎ ((old.edits + 1 < number) × MeansRefusal NotFound reply happenings)
-    ⊎ ((old.forgotten < number) × (number ≤ old.edits + 1) × MeansFound failed old.edits number reply happenings)
+    ⊎ ((old.forgotten < number) × (number ≤ old.edits + 1) × MeansFound failed old.edits old.digest number reply happenings)
 
 -- What is shown of a feature, read as the body of a PUT is: the feature's value.
 abbrev pub ShowsFeature : OrMemory (Option FeatureData) → (content : List ℕ) → Type 0
@@ -308,8 +322,8 @@ MeansAllowed failed old new (asked_from id) method ask body = MeansCall (look_fr
 MeansAllowed failed old new (asked_page id) method ask body = MeansPage id
 MeansAllowed failed old new (asked_box bounds id) method ask body = MeansBox bounds id
 MeansAllowed failed old new (asked_edits number) method ask body = MeansList failed old number
-MeansAllowed failed old new (asked_numbered number) method ask body = MeansNumberedBatch failed old number body
-MeansAllowed failed old new (asked_numbered_feature id number) method ask body = MeansNumberedPut failed old (needed ask) id number body
+MeansAllowed failed old new (asked_numbered number) method ask body = MeansNumberedBatch failed old ask.query number body
+MeansAllowed failed old new (asked_numbered_feature id number) method ask body = MeansNumberedPut failed old ask.query (needed ask) id number body
 MeansAllowed failed old new (asked_view view) method ask body = MeansView failed old new view method ask
 MeansAllowed failed old new (asked_action action) method ask body = MeansAction failed old new action body
 MeansAllowed failed old new asked_nothing method ask body = MeansRefusal NotFound

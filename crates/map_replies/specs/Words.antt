@@ -19,8 +19,9 @@ use Rattle.tile_service.specs.declared.publishing_whole.Published.{Published}
 use Rattle.tile_service.specs.declared.status.Status.{Status}
 use Rattle.tile_service.specs.declared.fault.ServiceFault.{ServiceFault}
 use Rattle.tile_service.specs.declared.fault.ServiceFault.TheVariants as services
+use Rattle.map_replies.specs.Digests.{digest_text}
 use Rattle.map_replies.specs.declared.fault.RequestFault.{RequestFault}
-use Rattle.map_replies.specs.declared.fault.RequestFault.TheVariants.{NotFound, Json, Edit, Condition, Gone, Memory, Device, Damaged}
+use Rattle.map_replies.specs.declared.fault.RequestFault.TheVariants.{NotFound, Json, Edit, Condition, Digest, Gone, Memory, Device, Damaged}
 
 unfoldable pub text_type : List ℕ
 text_type = codes "text/plain"
@@ -73,6 +74,7 @@ fault_word NotFound = codes "NotFound\n"
 fault_word Json = codes "Json\n"
 fault_word (Edit fault) = edit_word fault
 fault_word Condition = codes "Condition\n"
+fault_word Digest = codes "Digest\n"
 fault_word Gone = codes "Gone\n"
 fault_word Memory = codes "Memory\n"
 fault_word Device = codes "Device\n"
@@ -87,6 +89,7 @@ fault_status NotFound = 404
 fault_status Json = 400
 fault_status (Edit fault) = edit_status fault
 fault_status Condition = 412
+fault_status Digest = 409
 fault_status Gone = 410
 fault_status Memory = 503
 fault_status Device = 500
@@ -229,9 +232,10 @@ archive_part s =
 unfoldable pub truth_text : Bool → List ℕ
 truth_text truth = if truth then codes "true" else codes "false"
 
--- whether the service is broken, and in how many cells the area that edits touch is counted
+-- whether the service is broken, in how many cells the area that edits touch is counted, and the digest of the map
 unfoldable pub broken_part : Status → List ℕ
-broken_part s = codes "},\"broken\":" ++ truth_text s.broken ++ codes ",\"cells\":" ++ decimal s.cells
+broken_part s =
+    codes "},\"broken\":" ++ truth_text s.broken ++ codes ",\"cells\":" ++ decimal s.cells ++ codes ",\"digest\":\"" ++ digest_text s.digest ++ codes "\""
 
 -- how many tiles of a publication in the making are made, and how many places of the journal were in use when its map was fixed
 unfoldable pub making_text : (made places : ℕ) → List ℕ

@@ -118,8 +118,10 @@ impl<D: Sectors + Drop> Calls<D> {
             Target::FeaturePage(id) => self.feature_page(id),
             Target::FeatureBox(bounds, id) => self.box_page(&bounds, id),
             Target::EditsFrom(number) => self.edits_from(number),
-            Target::EditsAt(number) => self.numbered_batch(number, body),
-            Target::FeatureAt(id, number) => self.numbered_put(id, number, ask.needed(), body),
+            Target::EditsAt(number) => self.numbered_batch(ask.query, number, body),
+            Target::FeatureAt(id, number) => {
+                self.numbered_put(id, ask.query, number, ask.needed(), body)
+            },
             Target::View(view) => self.on_view(view, method, ask),
             Target::Action(action) => self.on_action(action, body),
             Target::Nothing => Err(RequestFault::NotFound),

@@ -7,11 +7,12 @@ use http_serve::{EntityTag, Fields, WeakTag};
 use std::alloc::{AllocError, Global};
 use tile_routes::Method;
 
-/// What a request asks beside its path and its method: its header fields; and the number that tags of tiles begin with, if replies have
+/// What a request asks beside its path and its method: its header fields and its query; and the number that tags of tiles begin with, if replies have
 /// entity tags. If they don't, fields that speak of tags are ignored.
 #[derive(Clone, Copy)]
 pub(crate) struct Ask<'a> {
     pub(crate) fields: &'a Fields<'a>,
+    pub(crate) query: &'a [u8],
     pub(crate) tags: Option<u64>,
 }
 

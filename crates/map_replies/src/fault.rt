@@ -12,6 +12,8 @@ pub(crate) enum RequestFault {
     Edit(EditFault),
     /// The conditions of the request don't hold, or it would change something and no condition of it can hold.
     Condition,
+    /// The map has another digest than the request names.
+    Digest,
     /// Edits are asked for that the journal's ring doesn't have any more.
     Gone,
     /// An allocation failed.

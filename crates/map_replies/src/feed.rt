@@ -1,5 +1,5 @@
 //! The edits since the last publication, in JSON.
-ghost use Rattle.std.specs.Prelude.{◌≡◌, ◌⊎◌, ◌↔◌, ◌≤◌, ◌+◌, ◌^◌, ◌++◌, [], ℕ, List, map, length, IfOk, IfErr, OnOk};
+ghost use Rattle.std.specs.Prelude.{◌≡◌, ◌⊎◌, ◌↔◌, ◌≤◌, ◌<◌, ◌+◌, ◌^◌, ◌++◌, [], ℕ, List, map, length, IfOk, IfErr, OnOk, vec_len, vec_capacity};
 ghost use Rattle.sector_disk.specs.Disk.{HasFailed};
 ghost use Rattle.serde_json.specs.View.{view};
 ghost use Rattle.edit_journal.specs.Records.{record_data, records_of};
@@ -12,14 +12,16 @@ ghost use Rattle.tile_service.specs.Listing.{listed_records};
 ghost use Rattle.tile_service.specs.Machine.{recorded_in};
 ghost use Rattle.tile_service.specs.Replayed.{IsRecordFor, AreRecordsFor};
 ghost use Rattle.tile_service.specs.Service.{status_of};
-ghost use Rattle.map_replies.specs.Feed.{listed_edit, listed_edits, changes_of, feed_end, feed_body, IsTextFault, IsListFault};
+ghost use Rattle.map_replies.specs.Feed.{listed_edit, listed_edits, changes_of, digest_at, digest_member, feed_start, feed_end, feed_text, feed_body, IsTextFault, IsListFault};
 ghost use Rattle.map_replies.specs.Lists.{comma_if};
 ghost use Rattle.map_replies.specs.Meanings.{ListedAs, MeansList, Answers, DiskFailed};
 ghost use Rattle.map_replies.specs.Sending.{IsAnswered};
 ghost use Rattle.map_replies.specs.Tickets.{KeepsTickets};
 ghost use Rattle.map_replies.specs.declared.fault.RequestFault.TheVariants.{Damaged, Memory};
+ghost use Rattle.map_replies.specs.declared.feed.TheConstants.{MAX_MEMBER};
 
 use crate::calls::Calls;
+use crate::digests::{DIGEST_DIGITS, push_digest};
 use crate::fault::RequestFault;
 use crate::lists::add_listed;
 use crate::replies;
@@ -35,6 +37,9 @@ use std::alloc::{AllocError, Global};
 
 /// Edits are told until their texts, as the journal has them, have this many bytes together.
 const FEED_BYTES: usize = 16_384;
+
+/// Capacity for a digest, and the texts around it.
+const MAX_MEMBER: usize = DIGEST_DIGITS + 12;
 
 /// The JSON value of a change.
 fn change_value(alloc: Global, change: &Prepared) -> Result<Value, AllocError>
@@ -160,6 +165,35 @@ fn add_edits(
     Ok(())
 }
 
+/// Adds a digest, if it is to be told.
+fn push_member(out: &mut Vec<u8>, digest: Option<u64>)
+    requires room { vec_len out.old + MAX_MEMBER ≤ vec_capacity out.old }
+    ensures items { out.new.items ≡ out.old.items ++ digest_member digest }
+    ensures len { vec_len out.new ≤ vec_len out.old + MAX_MEMBER }
+    ensures capacity { vec_capacity out.old ≤ vec_capacity out.new }
+{
+    if let Some(digest) = digest {
+        push_text(out, b"\"digest\":\"");
+        push_digest(out, digest);
+        push_text(out, b"\",");
+    }
+}
+
+/// Begins the text, with a digest if it is to be told.
+#[tactic(auto, unfolding(crate::specs::Feed::feed_start))]
+fn feed_start(alloc: Global, digest: Option<u64>) -> Result<Vec<u8>, RequestFault>
+    ensures text { IfOk result (λ text. text.items ≡ feed_start digest) }
+    ensures fault { IfErr result (λ fault. fault ≡ Memory) }
+{
+    let Ok(mut text) = Vec::with_capacity(alloc, MAX_MEMBER + 10) else {
+        return Err(RequestFault::Memory);
+    };
+    push_text(&mut text, b"{");
+    push_member(&mut text, digest);
+    push_text(&mut text, b"\"edits\":[");
+    Ok(text)
+}
+
 /// Adds the number of the last edit, and ends the text.
 #[tactic(auto, unfolding(crate::specs::Feed::feed_end))]
 fn add_last(alloc: Global, text: &mut Vec<u8>, last: u64) -> Result<(), RequestFault>
@@ -175,24 +209,24 @@ fn add_last(alloc: Global, text: &mut Vec<u8>, last: u64) -> Result<(), RequestF
     add_bytes(text, &end)
 }
 
-/// The text of the edits of records with consecutive numbers, and of the number of the last edit.
-#[tactic(auto, unfolding(crate::specs::Feed::feed_start, crate::specs::Feed::feed_body))]
-fn feed_body(
+/// The text of a digest, if it is to be told, of the edits of records with consecutive numbers, and of the number of the last edit.
+#[tactic(auto, unfolding(crate::specs::Feed::feed_text))]
+fn feed_text(
     alloc: Global,
+    digest: Option<u64>,
     first: u64,
     records: &[Record],
     last: u64,
 ) -> Result<Vec<u8>, RequestFault>
     requires numbers { first + length records.now ≤ 2 ^ 64 }
-    ensures body { IfOk result (λ text. (edits : List RecordedEdit) × AreRecordsFor (records_of records.now) edits
-        × (text.items ≡ feed_body first (changes_of edits) last)) }
+    ensures text { IfOk result (λ text. (edits : List RecordedEdit) × AreRecordsFor (records_of records.now) edits
+        × (text.items ≡ feed_text digest first (changes_of edits) last)) }
     ensures fault { IfErr result (IsListFault (records_of records.now)) }
 {
-    let mut text = Vec::new(alloc);
-    match add_bytes(&mut text, b"{\"edits\":[") {
-        Ok(()) => {}
+    let mut text = match feed_start(alloc, digest) {
+        Ok(text) => text,
         Err(fault) => return Err(fault),
-    }
+    };
     match add_edits(alloc, &mut text, first, records) {
         Ok(()) => {}
         Err(fault) => return Err(fault),
@@ -203,16 +237,49 @@ fn feed_body(
     }
 }
 
+/// The digest of the map after the last edit, if a list of so many edits ends with that one.
+fn digest_at(first: u64, count: u64, last: u64, digest: u64) -> Option<u64>
+    requires first { 0 < first }
+    requires within { first + count ≤ last + 1 }
+    ensures { result ≡ digest_at (first + count) last digest }
+{
+    if first - 1 + count == last {
+        Some(digest)
+    } else {
+        None
+    }
+}
+
+/// The text of the edits of records with consecutive numbers, and of the number of the last edit, where the map after that has this digest.
+fn feed_body(
+    alloc: Global,
+    first: u64,
+    records: &[Record],
+    last: u64,
+    digest: u64,
+) -> Result<Vec<u8>, RequestFault>
+    requires first { 0 < first }
+    requires within { first + length records.now ≤ last + 1 }
+    ensures body { IfOk result (λ text. (edits : List RecordedEdit) × AreRecordsFor (records_of records.now) edits
+        × (text.items ≡ feed_body first (changes_of edits) last digest)) }
+    ensures fault { IfErr result (IsListFault (records_of records.now)) }
+{
+    let told = digest_at(first, records.len() as u64, last, digest);
+    feed_text(alloc, told, first, records, last)
+}
+
 /// The reply with what was read of the edits from a number on.
 fn listed(
     alloc: Global,
     number: u64,
     last: u64,
+    digest: u64,
     found: Result<Vec<Record>, JournalFault>,
 ) -> Result<Reply, RequestFault>
-    requires numbers { IfOk found (λ records. number + length records.items ≤ last + 1) }
+    requires number { 0 < number }
+    requires within { IfOk found (λ records. number + length records.items ≤ last + 1) }
     ensures answered { (before after : ℕ) → TellsRecoverFault found before after
-        → IsAnswered (ListedAs (HasFailed before after) last number (listed_records found)) result }
+        → IsAnswered (ListedAs (HasFailed before after) last digest number (listed_records found)) result }
     ensures writable { IfOk result IsWhole }
 {
     let records = match found {
@@ -224,7 +291,7 @@ fn listed(
         Err(JournalFault::NumbersSpent) => return Err(RequestFault::Damaged),
         Err(JournalFault::Full { .. }) => return Err(RequestFault::Damaged),
     };
-    match feed_body(alloc, number, &records, last) {
+    match feed_body(alloc, number, &records, last, digest) {
         Ok(text) => Ok(replies::json(text)),
         Err(fault) => Err(fault),
     }
@@ -248,7 +315,8 @@ impl<D: Sectors + Drop> Calls<D> {
         if number - 1 > last {
             return Err(RequestFault::NotFound);
         }
+        let digest = self.service.digest();
         let found = self.service.edits_from(number, FEED_BYTES);
-        listed(self.alloc, number, last, found)
+        listed(self.alloc, number, last, digest, found)
     }
 }

@@ -8,6 +8,7 @@ mod calls;
 mod checking;
 mod conditions;
 mod confirming;
+mod digests;
 mod downloads;
 mod editing;
 mod fault;

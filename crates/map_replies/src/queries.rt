@@ -1,7 +1,9 @@
 //! What a request says in its query.
-ghost use Rattle.std.specs.Prelude.{◌≤◌, IsTrue, length};
+ghost use Rattle.std.specs.Prelude.{◌≡◌, ◌≤◌, IsTrue, length};
+ghost use Rattle.map_replies.specs.Digests.{agrees, part_agrees};
 ghost use Rattle.map_replies.specs.Waits.{Contains};
 
+use crate::digests::digest_digits;
 use http_values::{are_digits, digits_number};
 
 /// The most digits of a number of seconds.
@@ -54,4 +56,25 @@ pub(crate) fn seconds_of(query: &[u8], name: &[u8]) -> u64 {
         start = start + count + 1;
     }
     0
+}
+
+/// Whether a part of a query says nothing of the map's digest, or that it has these digits.
+#[tactic(auto, unfolding(crate::specs::Digests::after_mark))]
+fn part_agrees(part: &[u8], digits: &[u8]) -> bool
+    ensures { result ≡ part_agrees digits.now part.now }
+{
+    match part.strip_prefix(b"after=".as_slice()) {
+        Some(value) => value == digits,
+        None => true,
+    }
+}
+
+/// Whether a query agrees with a map of this digest: it names no other one.
+pub(crate) fn agrees(query: &[u8], digest: u64) -> bool
+    ensures { result ≡ agrees query.now digest }
+{
+    let digits = digest_digits(digest);
+    query
+        .split(|byte| *byte == b'&')
+        .all(|part| part_agrees(part, &digits))
 }

@@ -84,6 +84,7 @@ impl<D: Sectors + Drop> MapReplies<D> {
     {
         let ask = Ask {
             fields: &request.fields,
+            query: request.query,
             tags: self.settings.tags,
         };
         ask.refuses(method)
@@ -103,6 +104,7 @@ impl<D: Sectors + Drop> MapReplies<D> {
         let method = target.method(request.method);
         let ask = Ask {
             fields: &request.fields,
+            query: request.query,
             tags: self.settings.tags,
         };
         match self.calls.respond(target, method, ask, request.body) {

@@ -18,9 +18,9 @@ use sector_disk::Sectors;
 /// A standby has the leader's map after its first edits, those up to the standby's own last number, and keeps it so whatever it is given:
 /// an edit of the leader under its number is made once, in its order, or changes nothing.
 pub fn standby_has_first_edits<D: Sectors>()
-    ensures { (m : FeatureMap) (first : ℕ) (edits : List EditData) (number : ℕ) (body : List ℕ) (reply : ReplyView) (happenings : List Happening)
-        (old new : ServiceView D) → HasFirstEdits m first edits old.features old.journal.last → SaysEditOf first edits number body
-        → MeansNumberedBatch (DiskFailed D.faults old new) (status_of old) number body reply happenings
+    ensures { (m : FeatureMap) (first : ℕ) (edits : List EditData) (query : List ℕ) (number : ℕ) (body : List ℕ) (reply : ReplyView)
+        (happenings : List Happening) (old new : ServiceView D) → HasFirstEdits m first edits old.features old.journal.last → SaysEditOf first edits number body
+        → MeansNumberedBatch (DiskFailed D.faults old new) (status_of old) query number body reply happenings
         → TakesAll D.sectors D.honest D.history old happenings new → HasFirstEdits m first edits new.features new.journal.last }
 {}
 

@@ -5,6 +5,7 @@ ghost use Rattle.map_replies.specs.Words.{archive_part, truth_text, broken_part,
 ghost use Rattle.map_replies.specs.Words.{making_text, draft_text, draft_part, status_body, status_reply};
 ghost use Rattle.map_replies.specs.declared.telling.TheConstants.{MAX_PART, MAX_STATUS};
 
+use crate::digests::push_digest;
 use crate::replies;
 use http_serve::Reply;
 use http_values::{MAX_DIGITS, push_number, push_text};
@@ -49,7 +50,7 @@ fn push_truth(out: &mut Vec<u8>, truth: bool)
     }
 }
 
-/// Adds whether the service is broken, and in how many cells edits are counted.
+/// Adds whether the service is broken, in how many cells edits are counted, and the digest of the map.
 #[tactic(auto, unfolding(crate::specs::Words::broken_part))]
 fn push_broken_part(out: &mut Vec<u8>, status: Status)
     requires room { vec_len out.old + MAX_PART ≤ vec_capacity out.old }
@@ -61,6 +62,9 @@ fn push_broken_part(out: &mut Vec<u8>, status: Status)
     push_truth(out, status.broken);
     push_text(out, b",\"cells\":");
     push_number(out, status.cells);
+    push_text(out, b",\"digest\":\"");
+    push_digest(out, status.digest);
+    push_text(out, b"\"");
 }
 
 /// Adds how far a publication in the making is: how many tiles are made, and how many places of the journal were in use when it began.

@@ -26,6 +26,7 @@ use Rattle.area_content.specs.Drafts.{DraftView}
 use Rattle.area_content.specs.declared.draft.Stage.TheVariants as stages
 use Rattle.edit_text.specs.Recorded.{RecordedEdit}
 use Rattle.feature_model.specs.declared.limits.TheConstants.{NUMBER_END}
+use Rattle.feature_store.specs.Digests.{map_digest}
 use Rattle.feature_store.specs.Moments.{MomentView, IsMomentOf, moment_map}
 use Rattle.feature_store.specs.Store.{FeatureMap, greatest_id, snapshot}
 use Rattle.map_metadata.specs.Metadata.{IsMetadataOf}
@@ -262,6 +263,7 @@ status_of service = record {
   version = service.version;
   features = length service.features;
   last = greatest_id service.features;
+  digest = map_digest service.features;
   edits = service.journal.last;
   published = service.journal.edits;
   forgotten = service.kept_journal.edits;

@@ -1,5 +1,6 @@
 //! What a service tells of itself.
 ghost use Rattle.std.specs.Prelude.{◌≡◌, ◌+◌, option_map};
+ghost use Rattle.feature_store.specs.Digests.{map_digest};
 ghost use Rattle.generations.specs.Areas.{sectors_of};
 ghost use Rattle.tile_cache.specs.Cells.{stale_cells};
 ghost use Rattle.tile_service.specs.Service.{left_of, status_of};
@@ -20,6 +21,8 @@ pub struct Status {
     pub features: u64,
     /// The greatest id of a feature, if there is one. The next free id is above it.
     pub last: Option<u64>,
+    /// The digest of the map.
+    pub digest: u64,
     /// The number of the last edit, or 0.
     pub edits: u64,
     /// The number of the last edit in the archive that was installed last, or 0.
@@ -85,6 +88,13 @@ impl<D: Sectors + Drop> Service<D> {
         self.map.stale(self.journal.edits)
     }
 
+    /// The digest of the map: a number by which it is told from other maps. It is kept, and no feature is read.
+    pub fn digest(&self) -> u64
+        ensures { result ≡ map_digest self.now.features }
+    {
+        self.map.store().digest()
+    }
+
     /// What the service tells of itself, a broken one too. It doesn't allocate, and the disk isn't read.
     pub fn status(&self) -> Status
         ensures { result ≡ status_of self.now }
@@ -94,6 +104,7 @@ impl<D: Sectors + Drop> Service<D> {
             version: self.version,
             features: self.map.store().len() as u64,
             last: self.map.store().greatest(),
+            digest: self.digest(),
             edits: self.journal.last,
             published: self.journal.edits,
             forgotten: self.kept_journal.edits,

@@ -23,17 +23,17 @@ module _ (first : ℕ) (edits : List EditData) where
   abbrev pub AsksOf : Asked → Result Method RouteFault → List ℕ → Type 0
   AsksOf asked method body = (asks_to_edit asked method ≡ false) ⊎ ((number : ℕ) × (asked ≡ asked_numbered number) × SaysEditOf first edits number body)
 
-  unless_given : (failed : Type 0) (old : Status) (number : ℕ) (body : List ℕ) (refused : Bool) (reply : ReplyView) (happenings : List Happening)
-      → SaysEditOf first edits number body → UnlessRefused refused (MeansNumberedBatch failed old number body) reply happenings
+  unless_given : (failed : Type 0) (old : Status) (query : List ℕ) (number : ℕ) (body : List ℕ) (refused : Bool) (reply : ReplyView) (happenings : List Happening)
+      → SaysEditOf first edits number body → UnlessRefused refused (MeansNumberedBatch failed old query number body) reply happenings
       → AreGiven first edits old.edits happenings
-  unless_given failed old number body true reply happenings said is = none_given first edits old.edits happenings is.1
-  unless_given failed old number body false reply happenings said is = given failed first edits old number body reply happenings said is
+  unless_given failed old query number body true reply happenings said is = none_given first edits old.edits happenings is.1
+  unless_given failed old query number body false reply happenings said is = given failed first edits old query number body reply happenings said is
 
   numbered_given : (failed : Type 0) (old new : Status) (number : ℕ) (method : Result Method RouteFault) (ask : AskView) (body : List ℕ)
       (reply : ReplyView) (happenings : List Happening) → SaysEditOf first edits number body
       → MeansMethod failed old new (asked_numbered number) method ask body reply happenings → AreGiven first edits old.edits happenings
   numbered_given failed old new number (Ok method) ask body reply happenings said is =
-      unless_given failed old number body (refuses (needed ask) method) reply happenings said is
+      unless_given failed old ask.query number body (refuses (needed ask) method) reply happenings said is
   numbered_given failed old new number (Err routes.NotFound) ask body reply happenings said is = none_given first edits old.edits happenings is.1
   numbered_given failed old new number (Err routes.NotAllowed) ask body reply happenings said is = none_given first edits old.edits happenings is.1
 

@@ -35,18 +35,19 @@ one_said body cs others is too =
 pub none_given : (first : ℕ) (edits : List EditData) (last : ℕ) (happenings : List Happening) → happenings ≡ [] → AreGiven first edits last happenings
 none_given first edits last happenings none = subst (AreGiven first edits last) (sym none) tt
 
-numbered : (failed : Type 0) (first : ℕ) (edits : List EditData) (old : Status) (number : ℕ) (cs : EditData) (reply : ReplyView)
-    (happenings : List Happening) → IsEditOf first edits number cs → MeansNumbered failed old number cs reply happenings
+numbered : (failed : Type 0) (first : ℕ) (edits : List EditData) (old : Status) (query : List ℕ) (number : ℕ) (cs : EditData) (reply : ReplyView)
+    (happenings : List Happening) → IsEditOf first edits number cs → MeansNumbered failed old query number cs reply happenings
     → AreGiven first edits old.edits happenings
-numbered failed first edits old number cs reply happenings is (inl (next, asked)) =
+numbered failed first edits old query number cs reply happenings is (inl (next, inl (agreed, asked))) =
     subst (AreGiven first edits old.edits) (sym asked.3) (subst (λ (n : ℕ). IsEditOf first edits n cs) next is, tt)
-numbered failed first edits old number cs reply happenings is (inr other) = none_given first edits old.edits happenings other.2
+numbered failed first edits old query number cs reply happenings is (inl (next, inr other)) = none_given first edits old.edits happenings other.1.1
+numbered failed first edits old query number cs reply happenings is (inr other) = none_given first edits old.edits happenings other.2
 
-pub given : (failed : Type 0) (first : ℕ) (edits : List EditData) (old : Status) (number : ℕ) (body : List ℕ) (reply : ReplyView)
-    (happenings : List Happening) → SaysEditOf first edits number body → MeansNumberedBatch failed old number body reply happenings
+pub given : (failed : Type 0) (first : ℕ) (edits : List EditData) (old : Status) (query : List ℕ) (number : ℕ) (body : List ℕ) (reply : ReplyView)
+    (happenings : List Happening) → SaysEditOf first edits number body → MeansNumberedBatch failed old query number body reply happenings
     → AreGiven first edits old.edits happenings
-given failed first edits old number body reply happenings said (inl (cs, changes, means)) =
-    numbered failed first edits old number cs reply happenings
+given failed first edits old query number body reply happenings said (inl (cs, changes, means)) =
+    numbered failed first edits old query number cs reply happenings
     (subst (IsEditOf first edits number) (one_said body said.0 cs said.1 changes) said.2) means
-given failed first edits old number body reply happenings said (inr (inl refused)) = none_given first edits old.edits happenings refused.2.1
-given failed first edits old number body reply happenings said (inr (inr refused)) = none_given first edits old.edits happenings refused.1
+given failed first edits old query number body reply happenings said (inr (inl refused)) = none_given first edits old.edits happenings refused.2.1
+given failed first edits old query number body reply happenings said (inr (inr refused)) = none_given first edits old.edits happenings refused.1

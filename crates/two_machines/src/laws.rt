@@ -60,9 +60,9 @@ pub fn a_listed_value_says_its_edit()
 
 /// A request under the number of a leader's edit, whose body says that edit, gives a standby nothing else, whatever the reply is.
 pub fn a_numbered_edit_is_given<D: Sectors>()
-    ensures { (first : ℕ) (edits : List EditData) (number : ℕ) (body : List ℕ) (reply : ReplyView) (happenings : List Happening)
+    ensures { (first : ℕ) (edits : List EditData) (query : List ℕ) (number : ℕ) (body : List ℕ) (reply : ReplyView) (happenings : List Happening)
         (old new : ServiceView D) → SaysEditOf first edits number body
-        → MeansNumberedBatch (DiskFailed D.faults old new) (status_of old) number body reply happenings
+        → MeansNumberedBatch (DiskFailed D.faults old new) (status_of old) query number body reply happenings
         → AreGiven first edits old.journal.last happenings }
 {}
 

@@ -17,5 +17,7 @@ returns-clause-answered g c =
     list_answered d.sectors d.honest d.history (HasFailed before after) old new c.args.number outcome
     (omega (arith, c.if-number-forgotten.false, c.forgotten.ensures)) (omega (arith, c.if-number-last.false, c.last-last.ensures))
     c.edits_from-found.ensures.takes c.listed.result
-    (subst (λ (last : ℕ). IsAnswered (ListedAs (HasFailed before after) last c.args.number outcome) c.listed.result) c.last-last.ensures
-    (c.listed.ensures.answered before after c.edits_from-found.ensures.failed))
+    (subst (λ (digest : ℕ). IsAnswered (ListedAs (HasFailed before after) old.journal.last digest c.args.number outcome) c.listed.result)
+    c.digest-digest.ensures
+    (subst (λ (last : ℕ). IsAnswered (ListedAs (HasFailed before after) last c.digest-digest.result c.args.number outcome) c.listed.result) c.last-last.ensures
+    (c.listed.ensures.answered before after c.edits_from-found.ensures.failed)))

@@ -14,5 +14,5 @@ returns-clause-answered g c =
     let body = c.args.body.now in
     let cs : EditData = map change_data c.in-Ok.changes.items in
     body_said d.sectors d.honest d.history (SaysChanges body) (HasBatchFault body)
-    (MeansNumbered (DiskFailed d.faults old new) (status_of old) c.args.number) cs old new _ c.in-Ok.ensures.found
+    (MeansNumbered (DiskFailed d.faults old new) (status_of old) c.args.query.now c.args.number) cs old new _ c.in-Ok.ensures.found
     c.make_numbered.ensures.answered
