@@ -72,6 +72,7 @@ class Status(TypedDict, total=False):
     area: Area
     broken: bool
     cells: int
+    digest: str
     edits: int
     features: int
     generation: int

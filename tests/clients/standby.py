@@ -649,6 +649,48 @@ def histories(cases: Cases, folder: str) -> None:
                 (code, said, known(standby)["edits"]),
                 (1, True, 3),
             )
+            words = ["watch", "--url", back.url, "--standby", standby.url, "--wait", "0.2"]
+            child = subprocess.run([*VTMAP, *words], capture_output=True, text=True)
+            said = f"the standby {standby.url} has another map than the server after edit 3" in child.stdout
+            cases.show("standby: vtmap watch says that the maps differ", (child.returncode, said), (2, True))
+    replaced(cases, folder, put)
+
+
+def replaced(cases, folder, put):
+    """A leader is replaced by an older copy of itself while it is followed: that has other edits under the same numbers, and the same last one."""
+    with Server(folder, "replaced", 4096) as leader:
+        put(leader, 1)
+        old = copied(leader, folder, "replaced_old")
+        put(leader, 2)
+        with Server(folder, copied(leader, folder, "replaced_standby")) as standby:
+            child = follow(leader.url, "--to", standby.url)
+            child.stdout.readline()
+            put(leader, 3, same="same")
+            seen = waited(lambda: known(standby)["edits"] == 3), digest_of(leader) == digest_of(standby)
+            cases.show("standby: digests are equal after equal edits", seen, (True, True))
+            child.send_signal(signal.SIGSTOP)
+            leader.end(signal.SIGKILL)
+            with Server(folder, old, port=leader.port) as back:
+                put(back, 4), put(back, 3, same="same")
+                child.send_signal(signal.SIGCONT)
+                lines = child.communicate(timeout=60)[0].splitlines()
+                said = "feature 2 of " + standby.url in lines[-1] and "put back from a copy" in lines[-1]
+                cases.show("standby: a leader that is replaced by an older copy meanwhile", (child.returncode, said), (1, True))
+                edit = short({"changes": [{"put": 5, "feature": json.loads(feature())}]})
+                digests = digest_of(back), digest_of(standby)
+                replies = [curl(f"{standby.url}{AT}4?after={each}", "-X", "POST", body=edit) for each in digests]
+                cases.show(
+                    "standby: an edit is made of one map alone",
+                    [(reply[0].split()[1], reply[2]) for reply in replies],
+                    [("409", b"Digest\n"), ("200", b'{"edit":4}')],
+                )
+
+
+def digest_of(server):
+    """The digest of a map, as the status and the end of the list of edits tell it."""
+    status = known(server)
+    listed = json.loads(curl(f"{server.url}/admin/edits/from/{status['edits'] + 1}")[2])
+    return status["digest"] if listed["digest"] == status["digest"] else None
 
 
 def standby(cases: Cases, folder: str) -> None:

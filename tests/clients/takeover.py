@@ -250,6 +250,16 @@ def by_a_command(cases: Cases, folder: str) -> None:
             [call for call in here.calls() if not call.startswith(("cat ", "--quiet"))],
             [],
         )
+        other = feature(tags={"other": True})
+        curl(f"{standby.url}/features/3", "-X", "PUT", body=other)
+        differs = here.vtmap(*words, "--planned", "--wait", "1"), here.vtmap(*words, "--dry-run")
+        said = f"After edit 2 the map of {leader.url} isn't the one here: one of the servers was put back from a copy"
+        cases.show(
+            "takeover: another map after the same edit",
+            (differs[0][0], said in differs[0][1][-1], differs[1][0], said in differs[1][1][1]),
+            (1, True, 0, True),
+        )
+        curl(f"{standby.url}/features/3", "-X", "DELETE")
         leader.end(signal.SIGKILL)
         leader.__exit__()
         told = here.vtmap(*words, "--dry-run")
@@ -271,7 +281,7 @@ def by_a_command(cases: Cases, folder: str) -> None:
         shutil.copy(os.path.join(TOP, "docs", "nginx.conf"), front_file)
         here.calls()
         told = here.vtmap(*words)
-        cases.show("takeover: is done", (told[0], told[1][2].split(".")[0]), (0, "taken over: edits go on with 2"))
+        cases.show("takeover: is done", (told[0], told[1][2].split(".")[0]), (0, "taken over: edits go on with 4"))
         called = [call for call in here.calls() if not call.startswith("cat ")]
         cases.show("takeover: what it runs", [call for call in called if call in STARTED], STARTED)
         edit = waited(lambda: curl(front.url + "/features/9", "-X", "PUT", body=feature())[2] == b'{"edit":2}')

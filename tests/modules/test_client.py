@@ -268,6 +268,34 @@ class Feed(unittest.TestCase):
                     standby.begin(leader)
 
 
+    def test_digests(self):
+        one, other = "0123456789abcdef", "fedcba9876543210"
+        told = {"edits": [], "last": 5, "digest": one}
+        known = Asked((("GET", "/admin/edits/from/6"), 200, told), (("GET", "/admin/edits/from/6"), 200, {"edits": [], "last": 5}))
+        known.edits_from(6)
+        self.assertEqual(known.ended, (5, one))
+        known.edits_from(6)
+        self.assertIsNone(known.ended)
+        # (the same last edit: no map is read)
+        standby = AskedStandby((STATUS, 200, {"edits": 5, "digest": one}))
+        standby.begin(Asked((STATUS, 200, {"edits": 5, "digest": one, "standby": {}})))
+        self.assertEqual((standby.at, standby.is_needed, standby.agreed), (5, True, (5, one)))
+        # (nothing is asked twice)
+        standby.confirm(Asked(), one)
+        standby.replies = [(("GET", "/admin/edits/from/6"), 200, told)]
+        with self.assertRaisesRegex(Stopped, "isn't that of .* after edit 5: one of the servers was put back"):
+            standby.confirm(Asked((STATUS, 200, {"edits": 4})), other)
+
+    def test_an_edit_of_one_map(self):
+        standby = AskedStandby(
+            (("POST", "/admin/edits/at/5?after=0123456789abcdef"), 200, {"edit": 5}),
+            (("POST", "/admin/edits/at/6?after=0123456789abcdef"), 409, b"Digest\n"),
+        )
+        standby.take({"edit": 5, "changes": [{"delete": 1}]}, "0123456789abcdef")
+        with self.assertRaisesRegex(Stopped, "edit 6 isn't made .*: the map before it isn't that of the server"):
+            standby.take({"edit": 6, "changes": [{"delete": 2}]}, "0123456789abcdef")
+
+
 class Made(unittest.TestCase):
     """What `Client.make` does with the replies to edits."""
 

@@ -73,6 +73,11 @@ def listed(first, end, last=None):
     return 200, json.dumps({"edits": [edit(number) for number in range(first, end)], "last": last or end - 1}).encode()
 
 
+def ended(first, end, digest):
+    """The same of a server that tells the digest of its map after the last edit, with which the list ends."""
+    return 200, json.dumps({"digest": digest, **json.loads(listed(first, end)[1])}).encode()
+
+
 class Rows(unittest.TestCase):
     def test_requests_are_sent_before_replies_come(self):
         server = Answers([(200, b"%d" % number) for number in range(8)], waits=8)
@@ -203,6 +208,28 @@ class Passed(unittest.TestCase):
         standby = Answers([made(5), (507, b"JournalFull 1 0\n"), (409, b"Next 6\n"), (507, b"JournalFull 1 0\n"), (200, b'{"left":0}'), made(6), made(7)])
         self.run_to_end(self.passing(Answers([listed(5, 8), listed(8, 8)]), standby, publishes=True))
         self.assertEqual((self.standby.at, standby.paths()), (7, ["5", "6", "7", "6", "begin", "6", "7"]))
+
+    def test_a_list_goes_on_from_the_map_with_which_the_last_one_ended(self):
+        one, other = "0" * 16, "1" * 16
+        leader = [ended(5, 7, one), listed(7, 8, 9), ended(8, 10, other), ended(10, 10, other)]
+        standby = Answers([*map(made, range(5, 10)), ended(10, 10, other)])
+        self.run_to_end(self.passing(Answers(leader), standby))
+        self.assertEqual((self.standby.at, standby.paths()), (9, ["5", "6", f"7?after={one}", "8", "9", "10"]))
+        self.assertEqual(self.standby.agreed, (9, other))
+
+    def test_a_map_that_differs_at_the_end(self):
+        leader = Answers([ended(5, 7, "0" * 16), ended(7, 7, "0" * 16), (200, b'{"edits":5}')])
+        standby = Answers([made(5), made(6), ended(7, 7, "1" * 16)])
+        with self.assertRaisesRegex(Stopped, "after edit 6: one of the servers was put back from a copy"):
+            self.run_to_end(self.passing(leader, standby))
+
+    def test_an_edit_of_a_map_that_differs(self):
+        leader = Answers([ended(5, 6, "0" * 16), ended(6, 7, "1" * 16), ended(7, 7, "1" * 16)])
+        refusal = (409, b"Digest\n")
+        standby = Answers([made(5), refusal, refusal])
+        with self.assertRaisesRegex(Stopped, "edit 6 isn't made"):
+            self.run_to_end(self.passing(leader, standby))
+        self.assertEqual(standby.paths(), ["5", *["6?after=" + "0" * 16] * 2])
 
     def test_one_that_is_too_long_is_put_between_two_rows(self):
         edits = [edit(5), edit(6), edit(7, text="x" * 65536), edit(8), edit(9)]

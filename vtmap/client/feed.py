@@ -11,7 +11,7 @@
 from __future__ import annotations
 
 import http.client
-from collections.abc import Iterable, Iterator
+from collections.abc import Iterable, Iterator, Mapping
 from typing import Any, Optional
 
 from ..faults import Fault, NoAnswer, Stopped
@@ -33,6 +33,12 @@ NO_NUMBERS = "the server makes no edits under a number: it is older than they ar
 WAITED_FOR = (502, 503, 504)
 ANEW = "begin it anew from a copy of the server's disk (docs/DEPLOYING.md, A second machine)"
 THEN = ANEW[0].upper() + ANEW[1:]
+WHY = "one of the servers was put back from a copy, or edited by somebody else"
+
+
+def have_other_maps(one: Mapping[str, object], other: Mapping[str, object]) -> bool:
+    """Whether two servers have different maps after the same edit. An older server doesn't tell."""
+    return one["edits"] == other["edits"] and "digest" in one and "digest" in other and one["digest"] != other["digest"]
 
 
 class LeftBehind(Fault):
@@ -44,7 +50,10 @@ class LeftBehind(Fault):
 
 
 class Leader(Client):
-    """A server whose edits are listed."""
+    """A server whose edits are listed. `ended`: if the last list ended with the server's last edit, the number of that one, and the digest of the map
+    after it. An older server tells none."""
+
+    ended: Optional[tuple[int, str]] = None
 
     def stop_at(self, status: int, content: bytes) -> None:
         """Stops at a refusal that every further request would get; one that passes is no answer."""
@@ -69,6 +78,7 @@ class Leader(Client):
             for at, edit in enumerate(reply["edits"], number):
                 if edit["edit"] != at:
                     raise Stopped(f"{self.address} lists edit {edit['edit']:,} in place of {at:,}")
+            self.ended = (reply["last"], reply["digest"]) if "digest" in reply else None
             return reply["edits"], reply["last"]
         if status == 410:
             known = self.known()
@@ -125,23 +135,61 @@ class Leader(Client):
 
 class Standby(Leader):
     """A server that makes the edits of another one. `at` is the number of its last edit, None where that has to be asked for; `is_compared`: whether
-    its map was compared with the leader's; `is_needed`: whether the leader acknowledges an edit once a standby has it."""
+    its map was compared with the leader's; `agreed`: after which edit both had which digest; `is_needed`: whether the leader acknowledges an edit
+    once a standby has it."""
 
     at: Optional[int] = None
+    agreed: Optional[tuple[int, str]] = None
     is_compared = is_needed = False
 
     def begin(self, leader: Leader) -> None:
-        """Asks for the last edit, and compares it with the same edit of the leader. Compares the maps the first time, and where one of them doesn't
-        list that edit any more."""
-        self.is_needed = "standby" in leader.known()
-        at = self.at = self.known()["edits"]
-        here = self.edit(at) if at else None
-        there = leader.edit(at) if here else None
-        if there and encoded(here) != encoded(there):
+        """Asks for the last edit. If it is the leader's last one too, equal digests say that the maps are equal. Otherwise, and of an older server, it
+        is compared with the same edit of the leader, and the maps by their features the first time, and where one of them doesn't list that edit any
+        more."""
+        there = leader.known()
+        self.is_needed = "standby" in there
+        here = self.known()
+        at = self.at = here["edits"]
+        is_other = have_other_maps(here, there)
+        if at == there["edits"] and "digest" in here and "digest" in there and not is_other:
+            self.agreed, self.is_compared = (at, here["digest"]), True
+            return
+        mine = self.edit(at) if at else None
+        same = leader.edit(at) if mine else None
+        if same and encoded(mine) != encoded(same):
             raise Stopped(f"edit {at:,} of {self.address} isn't that of {leader.address}: it was edited by somebody else. {THEN}")
-        if at and not (there and self.is_compared):
+        if at and (is_other or not (same and self.is_compared)):
             self.compare(leader, at)
+        if is_other:
+            raise self.another_map(leader, at)
         self.is_compared = True
+
+    def judge(self, leader: Leader, at: int, here: str, there: str) -> None:
+        """Stops if the digests of both maps after an edit differ. Says which feature does, unless edits since then change that."""
+        if here != there:
+            try:
+                self.compare(leader, at)
+            except LeftBehind:
+                pass
+            raise self.another_map(leader, at)
+        self.agreed = at, here
+
+    def another_map(self, leader: Leader, at: int) -> Stopped:
+        """That the maps differ after an edit."""
+        return Stopped(f"the map of {self.address} isn't that of {leader.address} after edit {at:,}: {WHY}. {THEN}")
+
+    def confirm(self, leader: Leader, digest: str) -> None:
+        """Compares the map with the leader's after the last edit that was made, which has this digest. One question for edits says that of the map here."""
+        at = self.at
+        if at is None or self.agreed == (at, digest):
+            return
+        try:
+            self.edits_from(at + 1)
+        except LeftBehind:
+            return
+        # Whoever edits it besides is noticed by the next edit's number.
+        if self.ended and self.ended[0] == at:
+            self.judge(leader, at, self.ended[1], digest)
 
     def compare(self, leader: Leader, at: int) -> None:
         """Compares the map with the leader's, after its last edit. Features that edits since then change may differ: those edits are made here next. If
@@ -151,12 +199,11 @@ class Standby(Leader):
         other = set(differing(self.features(), leader.features()))
         other -= leader.changed_since(at) if other else set()
         if other:
-            raise Stopped(f"feature {min(other):,} of {self.address} isn't that of {leader.address}, and no edit after {at:,} changes it: one of the "
-                          f"servers was put back from a copy, or edited by somebody else. {THEN}")
+            raise Stopped(f"feature {min(other):,} of {self.address} isn't that of {leader.address}, and no edit after {at:,} changes it: {WHY}. {THEN}")
 
-    def take(self, edit: Edit) -> None:
-        """Makes the edit after the last one. If the number of its next edit is another one, it has to begin again."""
-        status, content = self.reply_to(edit)
+    def take(self, edit: Edit, digest: Optional[str] = None) -> None:
+        """Makes the edit after the last one, of a map with this digest. If the number of its next edit is another one, it has to begin again."""
+        status, content = self.reply_to(edit, digest)
         if status == 409 and content.startswith(b"Next "):
             self.at = None
         elif status == 200:
@@ -164,18 +211,18 @@ class Standby(Leader):
         else:
             self.refused(edit, status, content)
 
-    def reply_to(self, edit: Edit) -> tuple[int, bytes]:
+    def reply_to(self, edit: Edit, digest: Optional[str]) -> tuple[int, bytes]:
         """The reply to an edit that gets its own number or isn't made."""
         body = body_of(edit)
         if len(body) > MOST_BODY:
-            return self.put_alone(edit)
-        return self.sent("POST", f"{NUMBERED}/{edit['edit']}", body)
+            return self.put_alone(edit, digest)
+        return self.sent("POST", only_after(f"{NUMBERED}/{edit['edit']}", digest), body)
 
-    def put_alone(self, edit: Edit) -> tuple[int, bytes]:
+    def put_alone(self, edit: Edit, digest: Optional[str]) -> tuple[int, bytes]:
         """The reply to an edit whose changes are too long for a body: it has put one feature, whose JSON alone isn't."""
         (change,) = edit["changes"]
         body = encoded(change["feature"])
-        status, content = self.sent("PUT", f"/admin/features/{change['put']}/at/{edit['edit']}", body)
+        status, content = self.sent("PUT", only_after(f"/admin/features/{change['put']}/at/{edit['edit']}", digest), body)
         return self.put_unnumbered(edit["edit"], change["put"], body) if status == 404 else (status, content)
 
     def put_unnumbered(self, edit: int, feature: int, body: bytes) -> tuple[int, bytes]:
@@ -204,9 +251,16 @@ class Standby(Leader):
         if status == 404 and said == "NotFound":
             is_deletion = any("delete" in change for change in edit["changes"])
             raise Stopped(f"edit {edit['edit']:,} deletes what {self.address} doesn't have: {ANEW}" if is_deletion else NO_NUMBERS)
+        if said == "Digest":
+            raise Stopped(f"edit {edit['edit']:,} isn't made at {self.address}: the map before it isn't that of the server that is followed: {WHY}. {THEN}")
         self.stop_at(status, content)
         reason = f" ({told(WORDS[said])})" if said in WORDS else ""
         raise Stopped(f"edit {edit['edit']:,} isn't made at {self.address}: {status} {said}{reason}")
+
+
+def only_after(path: str, digest: Optional[str]) -> str:
+    """The path of an edit that is made only of a map with this digest."""
+    return f"{path}?after={digest}" if digest else path
 
 
 def body_of(edit: Edit) -> bytes:

@@ -16,7 +16,7 @@ from typing import NamedTuple, Optional
 from ..faults import Fault, NoAnswer
 from ..limits import MOST_BODY
 from .client import FEED
-from .feed import NUMBERED, Edit, Leader, Standby, body_of
+from .feed import NUMBERED, Edit, Leader, Standby, body_of, only_after
 from .rows import WINDOW, Reply, Row, readable
 
 # The seconds between two questions for the edits of a server that needs a standby, while answers are on their way, and while it has more edits than one
@@ -60,11 +60,14 @@ class Passing:
         self.sent: deque[Edit] = deque()
         self.sent_at = 0.0
         self.refused: list[Edit] = []
+        # By the number of an edit with which a list ended that was then the server's last one: the digest of the map after it.
+        self.digests: dict[int, str] = {}
         self.is_over = self.is_early = False
         self.fault: Optional[Fault] = None
 
     def run(self, is_enough: Callable[[], bool]) -> None:
-        """Passes on until the server has no edit for a while, or it is enough. What was listed is passed on too if the server fails."""
+        """Passes on until the server has no edit for a while, or it is enough. What was listed is passed on too if the server fails. Then the maps are
+        compared, if the standby has all that was listed."""
         try:
             self.pass_on()
             self.ask()
@@ -83,6 +86,8 @@ class Passing:
             raise
         if self.fault:
             raise self.fault
+        if self.standby.at in self.digests:
+            self.standby.confirm(self.leader, self.digests[self.standby.at])
 
     # ---- the server
 
@@ -149,6 +154,9 @@ class Passing:
         if reply.status == 200 and found and int(found[1]) == self.listed >= asked.number:
             return
         edits, self.last = self.leader.listed(asked.number, reply.status, reply.content)
+        if self.leader.ended:
+            number, digest = self.leader.ended
+            self.digests[number] = digest
         new = edits[self.listed + 1 - asked.number:]
         if new:
             self.waiting.extend(new)
@@ -181,7 +189,7 @@ class Passing:
                 continue
             edit = self.waiting.popleft()
             self.sent.append(edit)
-            requests.append(self.standby.request("POST", f"{NUMBERED}/{edit['edit']}", body))
+            requests.append(self.standby.request("POST", only_after(f"{NUMBERED}/{edit['edit']}", self.digests.get(edit["edit"] - 1)), body))
         if requests:
             if len(requests) == len(self.sent):
                 # Nothing was awaited, and the connection may have been closed.
@@ -199,6 +207,7 @@ class Passing:
                 edit = self.sent.popleft()
                 if reply.status == 200 and not self.refused:
                     self.standby.at = edit["edit"]
+                    self.digests.pop(edit["edit"] - 1, None)
                 else:
                     self.refused.append(edit)
                 if reply.is_last:
@@ -212,7 +221,8 @@ class Passing:
 
     def make_alone(self) -> None:
         """Makes the next edit by itself, which says why if it isn't made. Nothing is passed on once the standby has another number."""
-        self.standby.take(self.waiting.popleft())
+        edit = self.waiting.popleft()
+        self.standby.take(edit, self.digests.pop(edit["edit"] - 1, None))
         if self.standby.at is None:
             self.waiting.clear()
             self.fail()

@@ -34,9 +34,10 @@ A standby begins as a copy of the server's disk, and nobody else edits it:
 
 Each edit of the server becomes an edit of the standby with the same number and the same changes. The server replies as soon as there is one; for
 a log, and of an older server, it is asked every --every seconds. The standby itself makes an edit only under that number, so none is made twice or
-left out, whoever is stopped meanwhile: this command, the server or the standby. Each begins where the standby is. At the beginning the standby's
-last edit is compared with the server's, if both still list it, and all features but those that later edits change: a server that was put back from
-a copy is another map.
+left out, whoever is stopped meanwhile: this command, the server or the standby. Each begins where the standby is. Whenever both have the same last
+edit, the digests of their maps are compared, and the next edit is made only of the map that the server had. At the beginning, where one of them has more
+edits or is older than digests, the standby's last edit is compared with the server's, if both still list it, and all features but those that later
+edits change. A server that was put back from a copy is another map.
 
 With every request the server is told which edits are on the standby's disk: `vtserve serve --standby-needed` acknowledges an edit only then.
 

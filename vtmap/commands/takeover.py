@@ -6,6 +6,7 @@ import re
 import time
 
 from ..client.client import Client
+from ..client.feed import THEN, WHY, have_other_maps
 from ..faults import Fault, Refused
 from ..forms import Status
 from ..machine.machine import CLOSED, FOLLOW_ALL, FRONT, Machine, unit_of
@@ -60,27 +61,33 @@ def known(client: Client) -> Status:
     return status
 
 
-def edits_of(leader: Client) -> int | None:
-    """The number of the last edit of the first machine, None if it doesn't answer."""
+def status_of(leader: Client) -> Status | None:
+    """What the first machine tells of itself, None if it doesn't answer."""
     try:
-        status = leader.status()
+        return leader.status()
     except Fault:
         return None
     finally:
         leader.close()
+
+
+def edits_of(leader: Client) -> int | None:
+    """The number of the last edit of the first machine, None if it doesn't answer."""
+    status = status_of(leader)
     return status["edits"] if status else None
 
 
 def look_at_leader(words: argparse.Namespace, leader: Client, here: Client) -> None:
-    """Refuses while the first machine answers, unless that is planned; then waits until this one has all of its edits."""
+    """Refuses while the first machine answers, unless that is planned; then waits until this one has all of its edits. Refuses if the maps differ then."""
     leader.longest = PATIENCE
-    edits = edits_of(leader)
-    if edits is None:
+    there = status_of(leader)
+    if there is None:
         print(f"{leader.address} doesn't answer")
         return
+    edits = there["edits"]
     answers = f"{leader.address} answers, and has edit {edits:,}"
     if words.dry_run:
-        print(answers)
+        print(answers + (f". {another_map(leader, edits)}" if have_other_maps(known(here), there) else ""))
         return
     if not words.planned:
         raise Refused(f"{answers}: stop it, or see to it that nobody edits it any more and say --planned")
@@ -88,12 +95,26 @@ def look_at_leader(words: argparse.Namespace, leader: Client, here: Client) -> N
     while True:
         time.sleep(1)
         mine, now = known(here)["edits"], edits_of(leader)
-        if now is None or mine == now == edits:
+        if now is None:
             return
+        if mine == now == edits:
+            return refuse_another_map(leader, here)
         if now != edits:
             raise Refused(f"{leader.address} still takes edits ({edits:,}, then {now:,}): close it first (deny all in its nginx.conf)")
         if time.monotonic() > end:
             raise Refused(f"edit {now:,} of {leader.address} isn't here after {words.wait:g} s, but {mine:,}: what does journalctl -u vtserve-standby say?")
+
+
+def another_map(leader: Client, edits: int) -> str:
+    """That the map of the first machine is another one than that of this machine."""
+    return f"After edit {edits:,} the map of {leader.address} isn't the one here: {WHY}"
+
+
+def refuse_another_map(leader: Client, here: Client) -> None:
+    """Refuses if both have the same last edit and another map."""
+    mine, there = known(here), status_of(leader)
+    if there and have_other_maps(mine, there):
+        raise Refused(f"{another_map(leader, mine['edits'])}. Which one is right? {THEN}, or stop the first machine to go on with the map here")
 
 
 def work(words: argparse.Namespace) -> int:

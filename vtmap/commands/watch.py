@@ -15,6 +15,7 @@ from typing import Any, Optional
 
 from ..alive import ASKED
 from ..client.client import Client, word
+from ..client.feed import THEN, WHY, have_other_maps
 from ..client.followers import NUMBER, Log
 from ..client.refusals import APART, STATUSES, WORDS, told
 from ..ending import regular, replaced
@@ -47,7 +48,7 @@ entries as one may have, a publication that was left under way, a failed disk, a
 doesn't answer. --state FILE keeps what was seen, for the next look: whether the journal fills before the next publication. --record FILE is what `vtmap publish --record` keeps:
 whether the last publication was refused, and when it was. --backups FOLDER is where vtserve-backup.service saves the map
 (map-2026-11-29.jsonl): whether the newest backup is older than --backup-hours. --standby URL is a server that `vtmap follow` keeps as this
-one, and --log FILE a log that it writes: whether they lack edits. --gateway URL is a `vtmap wfs`: whether it answers. --files FOLDER is
+one, and --log FILE a log that it writes: whether they lack edits, or the standby has another map. --gateway URL is a `vtmap wfs`: whether it answers. --files FOLDER is
 the folder of its photos and files: whether its disk has room, and with --backups whether they are in the backups. --metrics FILE is written
 for Prometheus, by the textfile collector of node_exporter.
 
@@ -277,21 +278,24 @@ def unconfirmed(status: Status, client: Client, wait: float) -> Iterator[Task]:
 
 
 def behind(urls: list[str], status: Status, wait: float) -> Iterator[Task]:
-    """Whether a standby lacks edits that the server had a while ago."""
+    """Whether a standby lacks edits that the server had a while ago, or has another map after the same edit."""
     for url in urls:
         standby = Client(url)
         try:
-            has = status_of(standby)["edits"]
-            if has < status["edits"]:
+            there = status_of(standby)
+            if there["edits"] < status["edits"]:
                 time.sleep(wait)
-                has = status_of(standby)["edits"]
+                there = status_of(standby)
         except Unseen as fault:
             level, text = fault.args
             yield level, f"a standby: {text}"
             continue
+        has = there["edits"]
         if has < status["edits"]:
             yield NOW, (f"the standby {standby.address} has edits up to {has:,}, and the server had {status['edits']:,} of them {wait:g} seconds ago: is "
                         "`vtmap follow` running, and what does it say (journalctl -u vtserve-standby)?")
+        elif have_other_maps(there, status):
+            yield NOW, f"the standby {standby.address} has another map than the server after edit {has:,}: {WHY}. {THEN}"
 
 
 def behind_in_logs(paths: list[str], status: Status, wait: float) -> Iterator[Task]:
