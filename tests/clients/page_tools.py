@@ -468,9 +468,9 @@ class Tools(People):
         )
         self.drawn(self.one)
         self.show(
-            "after a publication the edits before it are no longer listed, and all are asked for",
-            len(self.tiles_asked(since)) >= 4,
-            True,
+            "a published edit is listed, and only the tiles that it changed are asked for",
+            self.tiles_asked(since),
+            sorted(names),
         )
 
     def unchanged_tiles(self, nginx):

@@ -375,7 +375,10 @@ def waits(cases, leader, standby, editor):
     cases.show("standby: publish --standby", seen, (0, f"waiting at most 60 s for {standby.url}", "", True))
     words = [*VTMAP, "publish", "--url", leader.url, "--standby", "http://127.0.0.1:1", "--pause", "1"]
     told = subprocess.run(words, capture_output=True, text=True)
-    said = "http://127.0.0.1:1 lacks edits that this publication takes out of the list: it may have to begin anew\n"
+    said = (
+        "http://127.0.0.1:1 lacks edits that this publication has: if the server is started again before it reads them,"
+        " it has to begin anew\n"
+    )
     cases.show("standby: publish --standby, which doesn't answer", (told.returncode, told.stderr), (0, said))
     began = time.monotonic()
     os.environ["VTSERVE_PAUSE"] = "1.5"
@@ -396,7 +399,10 @@ def waits_for_logs(cases, leader, log, editor):
     with open(other + ".at", "w", encoding="ascii") as file:
         file.write(f"{len(editor.acknowledged) - 1}\n")
     code, _, said = asked(other, "publish", "--pause", "1")
-    late = f"{other} lacks edits that this publication takes out of the list: they will be missing in it\n"
+    late = (
+        f"{other} lacks edits that this publication has: if the server is started again before it reads them,"
+        " they are missing in it\n"
+    )
     cases.show("standby: publish --log, which lacks an edit", (code, said), (0, late))
     seen = [asked(path, "watch", "--wait", "0.2")[::2] for path in (log, other, log + ".none")]
     cases.show("standby: vtmap watch --log", [code for code, _ in seen], [0, 2, 3])
@@ -518,6 +524,67 @@ def long_follow(cases: Cases, folder: str) -> None:
         f"long-follow: {EDITS:,} edits in {took:.0f} s, {kills} kills, {len(publications)} publications; all at the"
         f" standby after {took_all:.0f} s"
     )
+    shutil.rmtree(place)
+
+
+def away(cases: Cases, folder: str) -> None:
+    """Who follows is killed, and away while edits are published twice: nothing is missing then. If the server is
+    killed too, the log says which edits it misses, the standby begins anew, and no acknowledged edit is lost."""
+    place = os.path.join(folder, "away")
+    os.mkdir(place)
+    stage = Stage(place)
+    editor = Editor(stage.leader.port, 11)
+
+    def edits(count):
+        for _ in range(count):
+            editor.edit()
+
+    def leave():
+        """Kills who follows; then edits are made, and published twice."""
+        stage.follower.kill()
+        stage.told += stage.follower.communicate()[0].splitlines()
+        for _ in range(2):
+            edits(40)
+            curl(stage.leader.url + "/publish", "-X", "POST")
+        edits(10)
+
+    edits(30)
+    has_all = waited(lambda: known(stage.standby)["edits"] == 30)
+    leave()
+    stage.kill("standby")
+    seen = known(stage.leader)
+    cases.show(
+        "away: killed, and away over two publications",
+        (has_all, seen["generation"], seen["published"], seen["journal"]["forgotten"]),
+        (True, 2, 110, 0),
+    )
+    stage.start()
+    seen = waited(lambda: known(stage.standby)["edits"] == 120), features(stage.standby) == features(stage.leader)
+    cases.show("away: the standby has each edit", seen, (True, True))
+    seen = waited(lambda: log_of(stage.log) == editor.acknowledged), has_was(stage.log)
+    cases.show("away: the log has each edit once, and what it replaced", seen, (True, True))
+    leave()
+    stage.kill("leader")
+    there = {}
+    for edit in editor.acknowledged.values():
+        there.update(edit)
+    there = {number: feature for number, feature in there.items() if feature}
+    has = {row["id"]: row["feature"] for page in features(stage.leader) for row in json.loads(page)["features"]}
+    cases.show("away: the server is killed too, and has each acknowledged edit", has == there, True)
+    code, lines = once(stage.leader.url, "--to", stage.standby.url, "--log", stage.log)
+    told = [line for line in lines if "it has edits up to 120, and" in line]
+    with open(stage.log, encoding="utf-8") as file:
+        rows = [json.loads(line) for line in file]
+    missed = [row["missed"] for row in rows if "missed" in row]
+    cases.show(
+        "away: the standby is left behind, and the log says what it misses",
+        (code, len(told), missed, [row["edit"] for row in rows[-10:]]),
+        (1, 1, [[121, 200]], list(range(201, 211))),
+    )
+    anew(cases, place, stage.leader, stage.standby, editor)
+    gaps = [line for line in stage.told if "missing" in line or "anew" in line]
+    cases.show("away: nobody was told of a gap before", gaps, [])
+    stage.end_servers()
     shutil.rmtree(place)
 
 
@@ -699,6 +766,7 @@ def standby(cases: Cases, folder: str) -> None:
     os.mkdir(place)
     basics(cases, place)
     behind(cases, place)
+    away(cases, place)
     large(cases, place)
     histories(cases, place)
     shutil.rmtree(place)

@@ -63,7 +63,7 @@ class Leader(Client):
         super().stop_at(status, content)
 
     def edits_from(self, number: int, wait: int = 0) -> tuple[list[Edit], int]:
-        """The edits from a number on that one reply has, in order, and the number of the last edit. LeftBehind if they were published. If there are
+        """The edits from a number on that one reply has, in order, and the number of the last edit. LeftBehind if they have left the list. If there are
         none yet, the server waits up to `wait` seconds for one."""
         path = f"{FEED}/{number}"
         # What was sent ahead waits for nothing: it has edits to tell.
@@ -123,7 +123,7 @@ class Leader(Client):
         return edits[0] if edits else None
 
     def changed_since(self, number: int) -> set[int]:
-        """The ids of the features that the edits after a number change. LeftBehind if these were published."""
+        """The ids of the features that the edits after a number change. LeftBehind if these have left the list."""
         found: set[int] = set()
         last = self.known()["edits"]
         while number < last:

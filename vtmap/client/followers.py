@@ -1,4 +1,5 @@
-"""How a publication waits for who follows the edits: its last step takes the edits up to its beginning out of their list. Needs no package.
+"""How a publication waits for who follows the edits: published edits leave their list at the next start of the server, or when newer ones need their
+places. Needs no package.
 
 VTSERVE_PAUSE has the seconds that each command that publishes waits after the beginning, VTSERVE_STANDBYS the addresses of standbys, and VTSERVE_LOGS
 the paths of logs, with blanks between them: with those it waits until each of them has the edits, VTSERVE_PAUSE seconds at most.
@@ -82,6 +83,6 @@ def lacks(follower: Any, edits: int) -> bool:
 
 
 def told_late(follower: Any) -> str:
-    """What a publication does to who lacks some of its edits."""
-    then = "they will be missing in it" if isinstance(follower, Log) else "it may have to begin anew"
-    return f"{follower.address} lacks edits that this publication takes out of the list: {then}"
+    """What may become of who lacks some of a publication's edits."""
+    then = "they are missing in it" if isinstance(follower, Log) else "it has to begin anew"
+    return f"{follower.address} lacks edits that this publication has: if the server is started again before it reads them, {then}"

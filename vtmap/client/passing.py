@@ -144,7 +144,7 @@ class Passing:
             self.fail(fault)
 
     def take_list(self, asked: Asked, reply: Reply) -> None:
-        """Takes one list: of its edits those that none had before. A publication may have taken edits out of the list that are on their way already."""
+        """Takes one list: of its edits those that none had before. Edits may have left the list that are on their way already."""
         if reply.status == 410 and asked.number <= self.listed:
             return
         if reply.status != 200:

@@ -203,7 +203,7 @@ class EditLog:
         self.keep_number()
 
     def miss(self, source: Leader, published: int) -> None:
-        """Says which edits were published before they were read, and keeps the map of now."""
+        """Says which edits have left the list before they were read, and keeps the map of now."""
         kept_map, logged = self.begun()
         if logged < published:
             self.write([{"missed": [logged + 1, published]}])
@@ -214,7 +214,7 @@ class EditLog:
         self.keep_number()
 
     def keep_number(self) -> None:
-        """Keeps the number of the last edit that the log and its map have, once they have it: a publication may take it out of the list."""
+        """Keeps the number of the last edit that the log and its map have, once they have it: the server may forget it from then on."""
         kept_map, _ = self.begun()
         self.at = kept_map.at
         replaced(self.path + NUMBER, f"{self.at}\n")

@@ -1,6 +1,6 @@
 """What a log of edits misses, taken from nginx's log of edits and from the gateway's. Needs no package.
 
-Edits that were published before `vtmap follow --log` read them are missing in its log, and of some it isn't known what they replaced. Who passed
+Edits that left the feed before `vtmap follow --log` read them are missing in its log, and of some it isn't known what they replaced. Who passed
 them on has their bodies, and for a checked edit what it replaced. The gateway's lines have the numbers of the edits; nginx's don't. What was sent in
 the time of a gap, and is no other edit of the log, is what is missing, in the order of the times, if there are as many requests as numbers. A gap
 isn't filled if a later edit of the log says of a feature that it was something else.
