@@ -6,7 +6,8 @@
 Each map has half points and half buildings (`capacity.py`). First all maps are open: what each takes at rest (the share of memory that is its own, PSS),
 the time of a start, and of a processor in five seconds in which nobody asks. Then an editor for each map edits once a second on average, and sixteen
 readers ask for tiles of all maps by chance: an edit's and a tile's waits, and tiles a second. Last, regions of that many features, side by side, are
-published and joined by `vtmap join`: time, memory, and what `vtserve verify` says of it. It prints a line of JSON for each. DEPLOYING has what came out.
+published and joined by `vtmap join`: time, memory, what `vtserve verify` and the judge of model/ say of it, and how many contents GDAL reads (by the
+system's Python). It prints a line of JSON for each. DEPLOYING has what came out.
 """
 import argparse
 import http.client
@@ -23,7 +24,8 @@ import time
 
 HERE = os.path.dirname(os.path.abspath(__file__))
 TOP = os.path.join(HERE, "..", "..")
-sys.path.insert(0, HERE)
+sys.path[:0] = [HERE, os.path.join(TOP, "model")]
+from archives import judged  # noqa: E402
 from capacity import METRE, MIDDLE, Server, feature, publish  # noqa: E402
 
 PORT, READERS, ZOOMS = 18700, 16, (12, 13, 14)
@@ -171,8 +173,16 @@ def joined(words, folder):
         "regions": words.regions, "features of each": words.features, "MB of all": round(sum(map(os.path.getsize, archives)) / 1e6, 1),
         "join ended with": status, "join s": round(seconds, 1), "join processor s": round(used.ru_utime + used.ru_stime, 1),
         "join MB": round(used.ru_maxrss * 1024 / 1e6, 1), "country MB": round(os.path.getsize(country) / 1e6, 1),
-        "vtserve verify": (verdict.stdout + verdict.stderr).split("\n")[0],
+        "vtserve verify": (verdict.stdout + verdict.stderr).split("\n")[0], **read_by_others(country),
     }
+
+
+def read_by_others(country):
+    """What other readers say of an archive."""
+    gdal = subprocess.run(["/usr/bin/python3", os.path.join(TOP, "tests", "clients", "read_tiles.py"), country], capture_output=True, text=True)
+    with open(country, "rb") as file:
+        verdict = judged(file.read())
+    return {"model's judge": verdict, "contents read by GDAL": json.loads(gdal.stdout)["contents"] if gdal.returncode == 0 else None}
 
 
 def main():
