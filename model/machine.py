@@ -9,7 +9,7 @@ from crashes import Failed, Seen
 from disk import FIRST_VERSION, LAST_NUMBER, LONGEST, MAX_CHANGES, SECTOR, Change, Record, Root, after, in_order, parts_of, read_disk
 from disk import record_text, snapshot_text, text_of, whole_sectors
 from limits import MAX_ZOOM, MAX_TILES
-from map_archive import archive_of, id_of, metadata, points_of, reach, steps_of_tiles
+from map_archive import archive_of, id_of, metadata, points_of, reach, runs_of, steps_of_tiles
 from tiles import tile
 
 NUMBER_END = 2**63
@@ -149,26 +149,29 @@ class Publication:
 
 
 class Draft:
-    """A publication in the making: its moment, and how many tiles of its map are made. First its features are read, so many at a step; then its tiles
+    """A publication in the making: its moment, and the tiles of its map that are made. First its features are read, so many at a step; then its tiles
     are made zoom by zoom, and after the last one comes a step that finds none."""
 
     def __init__(self, moment, area):
-        self.moment, self.made, self.left = moment, 0, self.steps(area)
+        self.moment, self.tiles, self.left = moment, [], self.steps(area)
 
     def steps(self, area):
-        """Each step, and how many tiles it makes, for an area of so many sectors."""
+        """The tile that each step adds, or None, for an area of so many sectors."""
         for _ in range(len(self.moment.map) // READ_AT_ONCE + 1):
-            yield 0
+            yield None
         left = area - whole_sectors(len(snapshot_text(self.moment.map)))
         yield from steps_of_tiles(self.moment.map, FEATURES_OF_A_PART, left)
 
     def advance(self):
         """Makes the next step. Whether there was one."""
-        made = next(self.left, None)
-        if made is None:
-            return False
-        self.made += made
-        return True
+        for made in self.left:
+            self.tiles += [made] if made else []
+            return True
+        return False
+
+    def told(self):
+        """What is told of it: the entries that an archive of the tiles so far has, how many they are, and the places that were in use."""
+        return {"entries": len(runs_of(self.tiles)), "made": len(self.tiles), "places": self.moment.used}
 
 
 class Service:
@@ -505,7 +508,7 @@ class Service:
             "broken": self.broken,
             "cells": SQUARES**2,
             "digest": self.digest(),
-            "drafting": {"made": self.draft.made, "places": self.draft.moment.used} if self.draft else None,
+            "drafting": self.draft.told() if self.draft else None,
             "edits": self.last,
             "features": len(self.map),
             "generation": root.generation,

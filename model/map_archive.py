@@ -99,19 +99,19 @@ class Kept:
 
 
 def steps_of_tiles(found, features, sectors):
-    """Yields how many tiles each step makes. One reads which tiles the features of a zoom cover. Then each tile that may show something is made in
+    """Yields the tile that each step adds, by its id, or None. One reads which tiles the features of a zoom cover. Then each tile that may show something is made in
     parts, of so many features each: a tile that shows something is there with its last part. If it is large, the steps after it add it: while contents
     are kept, each copies a part of it, as long as a whole one is left, and then one adds it. The archive may have so many sectors. This is so of maps
     of some hundred features, of which no more need be looked at to find the next tile than a step may."""
     kept = Kept(found, sectors)
     for zoom in range(MAX_ZOOM + 1):
-        yield 0
-        for _, place, near in near_tiles_of(found, zoom):
-            yield from [0] * (-(-len(near) // features) - 1)
+        yield None
+        for number, place, near in near_tiles_of(found, zoom):
+            yield from [None] * (-(-len(near) // features) - 1)
             made = tile(near, *place)
             if made and len(made) >= LARGE_TILE:
-                yield from [0] * (1 + (len(made) // AHEAD if kept.fits else 0))
-            yield 1 if made else 0
+                yield from [None] * (1 + (len(made) // AHEAD if kept.fits else 0))
+            yield (number, made) if made else None
             if made:
                 kept.add(made)
 

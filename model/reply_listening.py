@@ -430,6 +430,15 @@ def whole_preparations(script):
     again = Peer((0, PUBLISH), (10, STATUS), (20, GET_ARCHIVE), (30, END), answered=[PUBLISH, STATUS, GET_ARCHIVE], last=20)
     other = Peer((0, request("DELETE", "/features/9") + STATUS), (29, END), answered=[request("DELETE", "/features/9"), STATUS])
     listen(script, again, other, order=[Fixed(0), 1, 1, 0, 0, 0], log=logged((2, 2, "closed"), (1, 3, "closed")), time=30)
+    script.note("While its tiles are made the status tells how many are, and how many entries they need: the first two are equal, and share one.")
+    with_point(script)
+    script.admin()
+    others = [DONE] * 5 + [STATUS] + [DONE] * 2 + [STATUS]
+    one = Peer((0, PUBLISH), (30, END), answered=[PUBLISH])
+    other = Peer((0, b"".join(others)), (29, END), answered=others)
+    # A step fixes the map, one reads its feature, 20 find the tiles of a zoom, three make one each, and the last finds none; then it is answered.
+    order = [place for _ in others for place in (Turn(0), 1)] + [Turn(0)] * (27 - len(others))
+    listen(script, one, other, order=order, log=logged((2, len(others), "closed"), (1, 1, "closed")), time=30)
     script.note("A query and empty lines before it change nothing of that.")
     for asked in (request("POST", "/publish?x"), b"\r\n\r\n" + PUBLISH):
         with_point(script)

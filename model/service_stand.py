@@ -13,7 +13,7 @@ Tag = namedtuple("Tag", "key value")
 Feature = namedtuple("Feature", "layer minzoom maxzoom geometry tags")
 Published = namedtuple("Published", "generation edits archive_len")
 Report = namedtuple("Report", "tiles entries contents")
-Drafting = namedtuple("Drafting", "made places")
+Drafting = namedtuple("Drafting", "entries made places")
 
 LONGEST = 240
 CALLS = ("publish", "prepare", "drafted", "drop", "drafting", "archive", "verify", "metadata", "version", "nothing")
@@ -257,7 +257,7 @@ class Trial:
 
     def do_drafting(self):
         draft = self.session.draft
-        return debug(some(Drafting(draft.made, draft.moment.used)) if draft else None)
+        return debug(some(Drafting(**draft.told())) if draft else None)
 
     def do_archive(self, at=0, count=None):
         count = self.session.root.archive_len if count is None else count

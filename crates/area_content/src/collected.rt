@@ -1,7 +1,7 @@
 //! The tiles of an archive in the making.
 ghost use Rattle.std.specs.Prelude.{◌≡◌, ◌<◌, ◌≤◌, ◌+◌, ◌-◌, ◌*◌, ◌++◌, ◌∷◌, [], length, take, min, Err, Some, None, OnOk, IfErr};
 ghost use Rattle.feature_store.specs.Store.{FeatureMap, snapshot};
-ghost use Rattle.pm_build.specs.Building.{AreFew, AreTooMany, CanAdd};
+ghost use Rattle.pm_build.specs.Building.{AreFew, AreTooMany, CanAdd, NeedEntries};
 ghost use Rattle.pm_build.specs.declared.ahead.TheConstants.{AHEAD_BYTES};
 ghost use Rattle.area_content.specs.Faults.{HasManyTiles, IsContentFault, told_as};
 ghost use Rattle.area_content.specs.Room.{AreBeyondIf, AreWithin, least_sectors};
@@ -87,6 +87,16 @@ impl Collected {
             counted: None,
             waiting: None,
             alloc,
+        }
+    }
+
+    /// How many entries an archive of the tiles has.
+    pub(crate) fn entries(&self) -> usize
+        ensures { NeedEntries (tiles_of self.now) result }
+    {
+        match &self.counted {
+            Some(counter) => counter.entries(),
+            None => self.kept.entries(),
         }
     }
 

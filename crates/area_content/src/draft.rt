@@ -1,12 +1,12 @@
 //! The content of an area in the making, by steps between which the map may be edited.
-ghost use Rattle.std.specs.Prelude.{◌≡◌, ◌≢◌, ◌<◌, ◌≤◌, ◌^◌, [], List, length, All, Ok, true, false, IfOk, IfErr};
+ghost use Rattle.std.specs.Prelude.{◌≡◌, ◌≢◌, ◌<◌, ◌≤◌, ◌^◌, [], length, All, Ok, true, false, IfOk, IfErr};
 ghost use Rattle.feature_store.specs.Moments.{IsAsOf};
 ghost use Rattle.feature_store.specs.Reading.{IsRead};
 ghost use Rattle.feature_store.specs.Store.{FeatureMap, IsMap, snapshot};
-ghost use Rattle.feature_store.specs.Tiles.{AreTiles, AreTilesBelow};
-ghost use Rattle.pm_build.specs.Tiles.{Tile};
+ghost use Rattle.feature_store.specs.Tiles.{AreTiles};
 ghost use Rattle.pm_metadata.specs.Archive.{IsMetadata};
 ghost use Rattle.area_content.specs.Content.{sectors_taken};
+ghost use Rattle.area_content.specs.Drafts.{AreAddedBelow};
 ghost use Rattle.area_content.specs.Faults.{IsBuiltFor, IsContentFault, IsShort};
 ghost use Rattle.area_content.specs.Room.{AreBeyond};
 
@@ -30,6 +30,15 @@ pub enum Stage {
     Made,
     /// A step has failed.
     Failed,
+}
+
+/// How many tiles are made and added.
+#[derive(Clone, Copy)]
+pub struct AddedTiles {
+    /// The tiles.
+    pub count: u64,
+    /// The entries that an archive of them has: one for each run of equal tiles.
+    pub entries: u64,
 }
 
 /// The content of an area for a map as of a moment, in the making. Each step makes a part of a tile, copies a part of a large one, or adds it, and
@@ -139,12 +148,14 @@ impl ContentDraft {
         })
     }
 
-    /// How many tiles are made and added.
-    pub fn made(&self) -> u64
-        ensures { self.now.stage ≡ Going
-            → (tiles : List Tile) × AreTilesBelow self.now.features self.now.from tiles × (result ≡ length tiles) }
+    /// How many tiles are made and added, and how many entries an archive of them has.
+    pub fn added(&self) -> AddedTiles
+        ensures { self.now.stage ≡ Going → AreAddedBelow self.now.features self.now.from result }
     {
-        self.made
+        AddedTiles {
+            count: self.made,
+            entries: self.collected.entries() as u64,
+        }
     }
 
     /// Makes a part of the next tile of the moment, `store` being the map as it is now, and at its last part adds the tile. A large tile is added

@@ -13,7 +13,7 @@ mod making;
 mod spent;
 
 pub use content::AreaContent;
-pub use draft::{ContentDraft, Stage};
+pub use draft::{AddedTiles, ContentDraft, Stage};
 pub use fault::ContentFault;
 pub use making::content_of;
 pub use spent::SpentContent;

@@ -55,12 +55,12 @@ module _ {D : Type 0} (sectors : D → ℕ) (honest : D → Type 0) (history : D
   changed_first before after call reply_of old new outcome reply is counts takes =
       (call outcome ∷ [], inl (outcome, is, device_failed outcome before after counts, refl), (new, takes, refl))
 
-  -- what the reply means it means for some number
-  pub some_first : (n : ℕ) (Means : ℕ → ReplyView → List Happening → Type 0) (old new : ServiceView D) (reply : ReplyView)
-      → Answers sectors honest history (OrNoMemory (Means n)) old new reply
-      → Answers sectors honest history (OrNoMemory (λ reply happenings. (n : ℕ) × Means n reply happenings)) old new reply
-  some_first n Means old new reply (happenings, inl means, takes) = (happenings, inl (n, means), takes)
-  some_first n Means old new reply (happenings, inr refused, takes) = (happenings, inr refused, takes)
+  -- what the reply means of this it means of something of which the same is true
+  pub some_first : {A : Type 0} (a : A) (P : A → Type 0) (Means : A → ReplyView → List Happening → Type 0) (old new : ServiceView D) (reply : ReplyView)
+      → P a → Answers sectors honest history (OrNoMemory (Means a)) old new reply
+      → Answers sectors honest history (OrNoMemory (λ reply happenings. (a : A) × P a × Means a reply happenings)) old new reply
+  some_first a P Means old new reply is (happenings, inl means, takes) = (happenings, inl (a, is, means), takes)
+  some_first a P Means old new reply is (happenings, inr refused, takes) = (happenings, inr refused, takes)
 
   -- something is shown, if there is memory for the reply
   pub shown : {A : Type 0} (call : OrMemory A → Happening) (reply_of : A → ReplyView) (old new : ServiceView D) (a : A) (r : Result Reply RequestFault)

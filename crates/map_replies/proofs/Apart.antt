@@ -20,6 +20,7 @@ use Rattle.feature_model.specs.Data.{FeatureData, EditData, put, delete}
 use Rattle.feature_model.specs.declared.feature.WorldBox.{WorldBox}
 use Rattle.tile_service.specs.Machine.{Happening, Call, single, batched, recorded_in, recorded_change, edit, begin, step, cancel, check}
 use Rattle.tile_service.specs.Machine.{got, tile, tile_number, look, look_from, metadata, read, list_edits}
+use Rattle.tile_service.specs.Service.{StatusView}
 use Rattle.tile_service.specs.declared.status.Status.{Status}
 use Rattle.http_requests.specs.Fields.{NamedValue}
 use Rattle.http_serve.specs.declared.replies.Tag.{Tag}
@@ -162,14 +163,14 @@ archive_apart : (failed : Type 0) (tag : EntityTag) (method : Method) (ask : Ask
 archive_apart failed tag method ask reply happenings (inl is) = none happenings is.1.1
 archive_apart failed tag method ask reply happenings (inr is) = judged_apart failed tag.length _ _ _ reply happenings is.1
 
-view_apart : (failed : Type 0) (old new : Status) (view : View) (method : Method) (ask : AskView) → AllApart (MeansView failed old new view method ask)
+view_apart : (failed : Type 0) (old : Status) (new : StatusView) (view : View) (method : Method) (ask : AskView) → AllApart (MeansView failed old new view method ask)
 view_apart failed old new views.Metadata method ask reply happenings is = one (metadata is.0) happenings tt is.2
 view_apart failed old new views.Archive method ask reply happenings is =
     first _ (archive_apart failed (archive_tag old) method ask) reply happenings is
-view_apart failed old new views.Status method ask reply happenings (inl is) = one (check is.1.0) happenings tt is.1.3
+view_apart failed old new views.Status method ask reply happenings (inl is) = one (check is.2.0) happenings tt is.2.3
 view_apart failed old new views.Status method ask reply happenings (inr is) = none happenings is.1
 
-action_apart : (failed : Type 0) (old new : Status) (action : Action) (body : List ℕ) → asks_to_publish (asked_action action) ≡ false
+action_apart : (failed : Type 0) (old : Status) (new : StatusView) (action : Action) (body : List ℕ) → asks_to_publish (asked_action action) ≡ false
     → AllApart (MeansAction failed old new action body)
 action_apart failed old new actions.Edits body other reply happenings is =
     body_apart _ _ _ (λ cs. edit_apart failed batched (recorded_in old.version cs)) reply happenings is
@@ -193,7 +194,7 @@ box_apart : (bounds : WorldBox) (id : ℕ) → AllApart (MeansBox bounds id)
 box_apart bounds id reply happenings (inl is) = none happenings is.1
 box_apart bounds id reply happenings (inr is) = subst AreApart (sym is.4) (page_apart id is.0 is.1)
 
-allowed_apart : (failed : Type 0) (old new : Status) (asked : Asked) (method : Method) (ask : AskView) (body : List ℕ)
+allowed_apart : (failed : Type 0) (old : Status) (new : StatusView) (asked : Asked) (method : Method) (ask : AskView) (body : List ℕ)
     → asks_to_publish asked ≡ false → AllApart (MeansAllowed failed old new asked method ask body)
 allowed_apart failed old new (asked_tile z x y format) method ask body other reply happenings is =
     tile_apart ask.tags ask.fields z x y format reply happenings is
@@ -218,7 +219,7 @@ unless_apart true asks IsMeant each unasked reply happenings is = none happening
 unless_apart false asks IsMeant each unasked reply happenings is = each unasked reply happenings is
 
 -- whatever the method
-pub method_apart : (failed : Type 0) (old new : Status) (asked : Asked) (method : Result Method RouteFault) (ask : AskView) (body : List ℕ)
+pub method_apart : (failed : Type 0) (old : Status) (new : StatusView) (asked : Asked) (method : Result Method RouteFault) (ask : AskView) (body : List ℕ)
     → calls_publication asked method ask ≡ false → (reply : ReplyView) (happenings : List Happening)
     → MeansMethod failed old new asked method ask body reply happenings → AreApart happenings
 method_apart failed old new asked (Ok method) ask body other reply happenings is =

@@ -12,7 +12,7 @@ use Rattle.tile_service.specs.Service.{ServiceView}
 use Rattle.tile_service.proofs.Runs.Callers.{takes_run}
 use Rattle.tile_service.proofs.Runs.States.{takes_states}
 use Rattle.map_replies.specs.declared.service.MapReplies.{MapReplies}
-use Rattle.tile_service.specs.Service.{status_of}
+use Rattle.tile_service.specs.Service.{status_of, status_view}
 use Rattle.map_replies.specs.Meanings.{Means, DiskFailed}
 use Rattle.map_replies.specs.State.{access_of, tags_of, settings_of, asked_service, KeepsArchivesOn, ServiceReplies, ServiceFails}
 use Rattle.map_replies.specs.State.{Course, course, Tells, TellsCut}
@@ -38,7 +38,7 @@ module _ {D : Type 0} (sectors : D → ℕ) (honest : D → Type 0) (history : D
         (
           is.0.0,
           subst (λ (s : MapReplies D). Means (access_of s) (tags_of s) (DiskFailed faults (asked_service s) (asked_service new))
-              (status_of (asked_service s)) (status_of (asked_service new)) request reply is.0.0) (sym here) is.0.1,
+              (status_of (asked_service s)) (status_view (asked_service new)) request reply is.0.0) (sym here) is.0.1,
           subst (λ (s : MapReplies D). TakesAll sectors honest history (asked_service s) is.0.0 (asked_service new)) (sym here) is.0.2,
           refl,
           subst (λ (s : MapReplies D). settings_of new ≡ settings_of s) (sym here) is.1,

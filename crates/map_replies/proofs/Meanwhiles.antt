@@ -22,7 +22,7 @@ use Rattle.tile_service.specs.Machine.{Happening, begin, step, cancel}
 use Rattle.tile_service.specs.Prepared.{CanPrepare, prepared}
 use Rattle.tile_service.specs.Publishing.{HasNoContent}
 use Rattle.tile_service.specs.Runs.{IsUnfinished, RestEndsAs, TakesAll}
-use Rattle.tile_service.specs.Service.{PublicationView, ServiceView, KeepsDraft, BeginsDrafted, TellsDevice, drafted_now, status_of}
+use Rattle.tile_service.specs.Service.{PublicationView, ServiceView, KeepsDraft, BeginsDrafted, TellsDevice, drafted_now, status_of, status_view}
 use Rattle.tile_service.specs.Tickets.{IsHeld}
 use Rattle.tile_service.specs.declared.fault.ServiceFault.{ServiceFault}
 use Rattle.tile_service.specs.declared.fault.ServiceFault.TheVariants.{Device}
@@ -310,7 +310,7 @@ module _ {D : Type 0} (sectors : D → ℕ) (honest : D → Type 0) (history : D
       more = goes_all sectors honest history before (asked_service ready) now happenings rests is.0.2
 
       apart : AreApart happenings
-      apart = method_apart (DiskFailed faults (asked_service ready) now) (status_of (asked_service ready)) (status_of now)
+      apart = method_apart (DiskFailed faults (asked_service ready) now) (status_of (asked_service ready)) (status_view now)
           (asked_for (access_of ready) request) (method_on request.method (asked_for (access_of ready) request)) (ask_of (tags_of ready) request) request.body
           (ap (λ (r : MapReplies D). is_to_publish r request) same ∙ unasked) reply happenings is.0.1
 

@@ -18,6 +18,7 @@ use Rattle.tile_routes.specs.Paths.{asked_box, asked_numbered_feature, asked_not
 use Rattle.feature_model.specs.declared.feature.WorldBox.{WorldBox}
 use Rattle.tile_service.specs.Machine.{Happening, edit, begin, step, cancel, check}
 use Rattle.tile_service.specs.Machine.{tile, tile_number, look, look_from, metadata, read, list_edits}
+use Rattle.tile_service.specs.Service.{StatusView}
 use Rattle.tile_service.specs.declared.status.Status.{Status}
 use Rattle.http_requests.specs.Fields.{NamedValue}
 use Rattle.http_serve.specs.declared.replies.Tag.{Tag}
@@ -107,11 +108,11 @@ archive_quiet : (failed : Type 0) (tag : EntityTag) (method : Method) (ask : Ask
 archive_quiet failed tag method ask reply happenings (inl is) = none happenings is.1.1
 archive_quiet failed tag method ask reply happenings (inr is) = judged_quiet failed tag.length _ _ _ reply happenings is.1
 
-view_quiet : (failed : Type 0) (old new : Status) (view : View) (method : Method) (ask : AskView) → AllQuiet (MeansView failed old new view method ask)
+view_quiet : (failed : Type 0) (old : Status) (new : StatusView) (view : View) (method : Method) (ask : AskView) → AllQuiet (MeansView failed old new view method ask)
 view_quiet failed old new views.Metadata method ask reply happenings is = some happenings (metadata is.0 ∷ []) (tt, tt) is.2
 view_quiet failed old new views.Archive method ask reply happenings is =
     or_memory _ (archive_quiet failed (archive_tag old) method ask) reply happenings is
-view_quiet failed old new views.Status method ask reply happenings (inl is) = some happenings (check is.1.0 ∷ []) (tt, tt) is.1.3
+view_quiet failed old new views.Status method ask reply happenings (inl is) = some happenings (check is.2.0 ∷ []) (tt, tt) is.2.3
 view_quiet failed old new views.Status method ask reply happenings (inr is) = none happenings is.1
 
 listed_quiet : (failed : Type 0) (old : Status) (number : ℕ) → AllQuiet (MeansList failed old number)
@@ -137,7 +138,7 @@ feature_quiet failed version ask id Post body other reply happenings is = some h
 
 -- ---- actions
 
-action_quiet : (failed : Type 0) (old new : Status) (action : Action) (body : List ℕ) → is_edit action ≡ false
+action_quiet : (failed : Type 0) (old : Status) (new : StatusView) (action : Action) (body : List ℕ) → is_edit action ≡ false
     → AllQuiet (MeansAction failed old new action body)
 action_quiet failed old new actions.Edits body other reply happenings is = absurd (false≢true (sym other))
 action_quiet failed old new actions.CheckedEdits body other reply happenings is = absurd (false≢true (sym other))
@@ -153,7 +154,7 @@ action_quiet failed old new actions.PublishCancel body other reply happenings (i
 
 -- ---- whatever is asked for
 
-allowed_quiet : (failed : Type 0) (old new : Status) (asked : Asked) (name : List ℕ) (method : Method) (ask : AskView) (body : List ℕ)
+allowed_quiet : (failed : Type 0) (old : Status) (new : StatusView) (asked : Asked) (name : List ℕ) (method : Method) (ask : AskView) (body : List ℕ)
     → Ok method ≡ method_on name asked → asks_to_edit asked (Ok method) ≡ false
     → (reply : ReplyView) (happenings : List Happening) → MeansAllowed failed old new asked method ask body reply happenings
     → AreQuiet happenings
@@ -186,7 +187,7 @@ unless_quiet true IsMeant reply happenings each is = none happenings is.1
 unless_quiet false IsMeant reply happenings each is = each is
 
 -- whatever the method
-pub means_quiet : (failed : Type 0) (old new : Status) (asked : Asked) (name : List ℕ) (method : Result Method RouteFault) (ask : AskView)
+pub means_quiet : (failed : Type 0) (old : Status) (new : StatusView) (asked : Asked) (name : List ℕ) (method : Result Method RouteFault) (ask : AskView)
     (body : List ℕ) → method ≡ method_on name asked → asks_to_edit asked method ≡ false → (reply : ReplyView) (happenings : List Happening)
     → MeansMethod failed old new asked method ask body reply happenings → AreQuiet happenings
 means_quiet failed old new asked name (Ok method) ask body on asks reply happenings is =

@@ -20,7 +20,7 @@ use Rattle.sector_disk.specs.Disk.{History, seen, HasFailed}
 use Rattle.sector_disk.proofs.AskedLaws as disks
 use Rattle.tile_service.specs.Machine.{Happening, read}
 use Rattle.tile_service.specs.Runs.{Takes}
-use Rattle.tile_service.specs.Service.{ServiceView, IsUp, ShowsArchive, ReadsFrom, shown_archive, status_of}
+use Rattle.tile_service.specs.Service.{ServiceView, IsUp, ShowsArchive, ReadsFrom, shown_archive, status_of, status_view}
 use Rattle.tile_service.specs.Stored.{Stored}
 use Rattle.tile_service.proofs.Runs.Callers.{read_step, shown_seen}
 use Rattle.tile_service.specs.declared.fault.ServiceFault.TheVariants.{Device}
@@ -446,7 +446,7 @@ module _ {D : Type 0} (sectors : D → ℕ) (honest : D → Type 0) (history : D
       → AnswersMethod sectors honest history faults asked (Ok method) ask body old new view
   allowed_answers asked method ask body old new view free (happenings, is, takes) = (
     happenings,
-    subst (λ (b : Bool). UnlessRefused b (MeansAllowed (DiskFailed faults old new) (status_of old) (status_of new) asked method ask body) view
+    subst (λ (b : Bool). UnlessRefused b (MeansAllowed (DiskFailed faults old new) (status_of old) (status_view new) asked method ask body) view
         happenings) (sym free) is,
     takes,
   )
@@ -456,7 +456,7 @@ module _ {D : Type 0} (sectors : D → ℕ) (honest : D → Type 0) (history : D
       → AnswersMethod sectors honest history faults asked (Ok method) ask body old old (refusal_of Condition)
   refused_answers asked method ask body old refused = (
     [],
-    subst (λ (b : Bool). UnlessRefused b (MeansAllowed (DiskFailed faults old old) (status_of old) (status_of old) asked method ask body)
+    subst (λ (b : Bool). UnlessRefused b (MeansAllowed (DiskFailed faults old old) (status_of old) (status_view old) asked method ask body)
         (refusal_of Condition) []) (sym refused) (refl, refl),
     refl,
   )

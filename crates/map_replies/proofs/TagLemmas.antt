@@ -17,7 +17,7 @@ use Rattle.tile_routes.specs.declared.method.Method.{Method}
 use Rattle.tile_routes.specs.declared.target.TileFormat.{TileFormat}
 use Rattle.tile_service.specs.Machine.{OrMemory, got, no_memory, Happening, tile, tile_number}
 use Rattle.tile_service.specs.Runs.{TakesAll, TakesRun}
-use Rattle.tile_service.specs.Service.{ServiceView, status_of}
+use Rattle.tile_service.specs.Service.{ServiceView, status_of, status_view}
 use Rattle.tile_service.specs.Tags.{TellsNumber}
 use Rattle.tile_service.proofs.Tiles.Tags.{knows_all, knows_on, same_layers}
 use Rattle.begin_law.specs.Inside.{IsInside}
@@ -67,7 +67,7 @@ module _ {D : Type 0} (sectors : D → ℕ) (honest : D → Type 0) (history : D
 
   told_by : (start z x y : ℕ) (format : TileFormat) (old new : ServiceView D) (request : RequestView) (reply : ReplyView) (tag : Tag)
       (happenings : List Happening) (method : Result Method RouteFault)
-      → MeansMethod (DiskFailed faults old new) (status_of old) (status_of new) (asked_tile z x y format) method (ask_of (Some start) request)
+      → MeansMethod (DiskFailed faults old new) (status_of old) (status_view new) (asked_tile z x y format) method (ask_of (Some start) request)
       request.body reply happenings
       → TakesAll sectors honest history old happenings new → reply.tag ≡ Some tag → Told start z x y old tag
   told_by start z x y format old new request reply tag happenings (Ok method) means takes has =
@@ -86,7 +86,7 @@ module _ {D : Type 0} (sectors : D → ℕ) (honest : D → Type 0) (history : D
       → reply.tag ≡ Some tag → Told start z x y old tag
   told access start z x y format old new request reply tag (happenings, means, takes) asked has =
       told_by start z x y format old new request reply tag happenings (method_on request.method (asked_tile z x y format))
-      (subst (λ (a : Asked). MeansMethod (DiskFailed faults old new) (status_of old) (status_of new) a (method_on request.method a)
+      (subst (λ (a : Asked). MeansMethod (DiskFailed faults old new) (status_of old) (status_view new) a (method_on request.method a)
       (ask_of (Some start) request) request.body reply happenings) asked means)
       takes has
 

@@ -37,8 +37,9 @@ use Rattle.tile_service.specs.Machine.{OrMemory, got, tile, tile_number, look, l
 use Rattle.tile_service.specs.Replayed.{AreRecordsFor}
 use Rattle.tile_service.specs.Runs.{begin_and_steps, IsUnfinished, TakesAll}
 use Rattle.tile_service.specs.Seen.{IsAsSeen}
-use Rattle.tile_service.specs.Service.{ServiceView, status_of}
+use Rattle.tile_service.specs.Service.{IsToldOf, ServiceView, StatusView, status_of, status_view}
 use Rattle.tile_service.specs.declared.publishing_whole.Published.{Published}
+use Rattle.tile_service.specs.declared.drafting.Drafting.{Drafting}
 use Rattle.tile_service.specs.declared.status.Status.{Status}
 use Rattle.tile_service.specs.declared.fault.ServiceFault.{ServiceFault}
 use Rattle.tile_service.specs.declared.fault.ServiceFault.TheVariants.{Device}
@@ -294,27 +295,28 @@ MeansOnFeature failed version needed id Delete body = MeansDelete failed version
 MeansOnFeature failed version needed id method body = MeansLook id
 
 -- The disk is asked whether it still keeps what is written, and then the service's status is told. With the fault Device the disk has
--- failed. How many tiles of a publication in the making are made is told too.
-abbrev pub MeansStatus : (failed : Type 0) → (new : Status) → ReplyView → List Happening → Type 0
-MeansStatus failed new reply happenings = (made : ℕ) × MeansChange failed check (λ outcome. status_reply made new) reply happenings
+-- failed. It is told too how many tiles of a publication in the making are made, and how many entries they need.
+abbrev pub MeansStatus : (failed : Type 0) → (new : StatusView) → ReplyView → List Happening → Type 0
+MeansStatus failed new reply happenings = (told : Option Drafting) × IsToldOf new.drafting told
+    × MeansChange failed check (λ outcome. status_reply told new.status) reply happenings
 
 -- what GET and HEAD show
-abbrev pub MeansView : (failed : Type 0) → (old new : Status) → View → Method → AskView → ReplyView → List Happening → Type 0
+abbrev pub MeansView : (failed : Type 0) → (old : Status) → (new : StatusView) → View → Method → AskView → ReplyView → List Happening → Type 0
 MeansView failed old new views.Metadata method ask = MeansCall metadata (shown_reply metadata_reply)
 MeansView failed old new views.Archive method ask = OrNoMemory (MeansArchive failed (archive_tag old) method ask)
 MeansView failed old new views.Status method ask = OrNoMemory (MeansStatus failed new)
 
 -- what POST does
-abbrev pub MeansAction : (failed : Type 0) → (old new : Status) → Action → List ℕ → ReplyView → List Happening → Type 0
+abbrev pub MeansAction : (failed : Type 0) → (old : Status) → (new : StatusView) → Action → List ℕ → ReplyView → List Happening → Type 0
 MeansAction failed old new actions.Edits body = MeansBatch failed old.version body
 MeansAction failed old new actions.CheckedEdits body = MeansCheckedBatch failed old.version body
-MeansAction failed old new actions.Publish body = OrNoMemory (MeansPublish failed old new)
+MeansAction failed old new actions.Publish body = OrNoMemory (MeansPublish failed old new.status)
 MeansAction failed old new actions.PublishBegin body = OrNoMemory (MeansCall begin left_reply)
 MeansAction failed old new actions.PublishStep body = OrNoMemory (MeansChange failed step left_reply)
 MeansAction failed old new actions.PublishCancel body = OrNoMemory (MeansCall cancel cancel_reply)
 
 -- a method that the path allows
-abbrev pub MeansAllowed : (failed : Type 0) → (old new : Status) → Asked → Method → AskView → List ℕ
+abbrev pub MeansAllowed : (failed : Type 0) → (old : Status) → (new : StatusView) → Asked → Method → AskView → List ℕ
     → ReplyView → List Happening → Type 0
 MeansAllowed failed old new (asked_tile z x y format) method ask body = MeansTile ask.tags ask.fields z x y format
 MeansAllowed failed old new (asked_feature id) method ask body = MeansOnFeature failed old.version (needed ask) id method body
@@ -334,7 +336,7 @@ UnlessRefused true IsMeant reply happenings = MeansRefusal Condition reply happe
 UnlessRefused false IsMeant reply happenings = IsMeant reply happenings
 
 -- a method, or why the path refuses it
-abbrev pub MeansMethod : (failed : Type 0) → (old new : Status) → Asked → Result Method RouteFault → AskView → List ℕ
+abbrev pub MeansMethod : (failed : Type 0) → (old : Status) → (new : StatusView) → Asked → Result Method RouteFault → AskView → List ℕ
     → ReplyView → List Happening → Type 0
 MeansMethod failed old new asked (Ok method) ask body reply happenings =
     UnlessRefused (refuses (needed ask) method) (MeansAllowed failed old new asked method ask body) reply happenings
@@ -346,7 +348,7 @@ abbrev pub asked_for : Access → RequestView → Asked
 asked_for access request = granted access (asked_by request.path)
 
 -- the reply to a request, which is routed by its path and its method
-abbrev pub Means : Access → (tags : Option ℕ) → (failed : Type 0) → (old new : Status) → RequestView → ReplyView → List Happening → Type 0
+abbrev pub Means : Access → (tags : Option ℕ) → (failed : Type 0) → (old : Status) → (new : StatusView) → RequestView → ReplyView → List Happening → Type 0
 Means access tags failed old new request =
     MeansMethod failed old new (asked_for access request) (method_on request.method (asked_for access request))
     (ask_of tags request) request.body
@@ -367,13 +369,13 @@ module _ {D : Type 0} (sectors : D → ℕ) (honest : D → Type 0) (history : D
     -- the reply to a method that the path allows
     abbrev pub AnswersAllowed : Asked → Method → AskView → List ℕ → (old new : ServiceView D) → ReplyView → Type 0
     AnswersAllowed asked method ask body old new =
-        Answers (MeansAllowed (DiskFailed faults old new) (status_of old) (status_of new) asked method ask body) old new
+        Answers (MeansAllowed (DiskFailed faults old new) (status_of old) (status_view new) asked method ask body) old new
 
     -- the reply to a method, or to one that the path refuses
     abbrev pub AnswersMethod : Asked → Result Method RouteFault → AskView → List ℕ → (old new : ServiceView D) → ReplyView → Type 0
     AnswersMethod asked method ask body old new =
-        Answers (MeansMethod (DiskFailed faults old new) (status_of old) (status_of new) asked method ask body) old new
+        Answers (MeansMethod (DiskFailed faults old new) (status_of old) (status_view new) asked method ask body) old new
 
     -- the reply to a request
     abbrev pub Replies : Access → (tags : Option ℕ) → ServiceView D → RequestView → ReplyView → ServiceView D → Type 0
-    Replies access tags old request reply new = Answers (Means access tags (DiskFailed faults old new) (status_of old) (status_of new) request) old new reply
+    Replies access tags old request reply new = Answers (Means access tags (DiskFailed faults old new) (status_of old) (status_view new) request) old new reply

@@ -7,7 +7,7 @@ use Rattle.http_serve.specs.Reply.{ReplyView}
 use Rattle.sector_disk.specs.Disk.{History}
 use Rattle.tile_service.specs.Machine.{Happening}
 use Rattle.tile_service.specs.Runs.{TakesAll}
-use Rattle.tile_service.specs.Service.{ServiceView, status_of}
+use Rattle.tile_service.specs.Service.{ServiceView, status_of, status_view}
 use Rattle.map_replies.specs.declared.calls.Calls.{Calls}
 use Rattle.map_replies.specs.declared.service.MapReplies.{MapReplies}
 use Rattle.map_replies.specs.declared.service.Settings.{Settings}
@@ -92,7 +92,7 @@ module _ {D : Type 0} (sectors : D → ℕ) (honest : D → Type 0) (history : D
   abbrev pub Tells : Course D → RequestView → ReplyView → Course D → Type 0
   Tells old request reply new = (happenings : List Happening)
       × Means (access_of old.replies) (tags_of old.replies) (DiskFailed faults (asked_service old.replies) (asked_service new.replies))
-      (status_of (asked_service old.replies)) (status_of (asked_service new.replies)) request reply happenings
+      (status_of (asked_service old.replies)) (status_view (asked_service new.replies)) request reply happenings
       × TakesAll sectors honest history (asked_service old.replies) happenings (asked_service new.replies)
       × (new.run ≡ old.run ++ happenings) × (settings_of new.replies ≡ settings_of old.replies)
       × KeepsTickets honest history old.replies.calls new.replies.calls × KeepsArchivesOn old.replies request reply new.replies

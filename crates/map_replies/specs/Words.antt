@@ -15,6 +15,7 @@ use Rattle.tile_routes.specs.declared.target.TileFormat.TheVariants.{Mvt, Hex}
 use Rattle.tile_routes.specs.Methods.{allow_of}
 use Rattle.tile_routes.specs.Paths.{Asked}
 use Rattle.tile_service.specs.Machine.{OrMemory, got, no_memory}
+use Rattle.tile_service.specs.declared.drafting.Drafting.{Drafting}
 use Rattle.tile_service.specs.declared.publishing_whole.Published.{Published}
 use Rattle.tile_service.specs.declared.status.Status.{Status}
 use Rattle.tile_service.specs.declared.fault.ServiceFault.{ServiceFault}
@@ -237,17 +238,19 @@ unfoldable pub broken_part : Status → List ℕ
 broken_part s =
     codes "},\"broken\":" ++ truth_text s.broken ++ codes ",\"cells\":" ++ decimal s.cells ++ codes ",\"digest\":\"" ++ digest_text s.digest ++ codes "\""
 
--- how many tiles of a publication in the making are made, and how many places of the journal were in use when its map was fixed
-unfoldable pub making_text : (made places : ℕ) → List ℕ
-making_text made places = codes "{\"made\":" ++ decimal made ++ codes ",\"places\":" ++ decimal places ++ codes "}"
+-- how many tiles of a publication in the making are made, how many entries they need, and how many places of the journal were in use when its map
+-- was fixed
+unfoldable pub making_text : Drafting → List ℕ
+making_text d =
+    codes "{\"entries\":" ++ decimal d.entries ++ codes ",\"made\":" ++ decimal d.made ++ codes ",\"places\":" ++ decimal d.places ++ codes "}"
 
 -- the same, if there is one
-abbrev pub draft_text : (made : ℕ) → Option ℕ → List ℕ
-draft_text made None = codes "null"
-draft_text made (Some places) = making_text made places
+abbrev pub draft_text : Option Drafting → List ℕ
+draft_text None = codes "null"
+draft_text (Some d) = making_text d
 
-unfoldable pub draft_part : (made : ℕ) → Status → List ℕ
-draft_part made s = codes ",\"drafting\":" ++ draft_text made s.drafting
+unfoldable pub draft_part : Option Drafting → List ℕ
+draft_part told = codes ",\"drafting\":" ++ draft_text told
 
 -- the number of the last edit, how many features there are, and the generation
 unfoldable pub map_part : Status → List ℕ
@@ -272,11 +275,11 @@ unfoldable pub disk_part : Status → List ℕ
 disk_part s =
     codes ",\"sectors\":" ++ decimal s.sectors ++ codes ",\"stale\":" ++ decimal s.stale ++ codes ",\"version\":" ++ decimal s.version
 
-unfoldable pub status_body : (made : ℕ) → Status → List ℕ
-status_body made s = archive_part s ++ broken_part s ++ draft_part made s ++ map_part s ++ journal_part s ++ published_part s ++ disk_part s ++ codes "}"
+unfoldable pub status_body : Option Drafting → Status → List ℕ
+status_body told s = archive_part s ++ broken_part s ++ draft_part told ++ map_part s ++ journal_part s ++ published_part s ++ disk_part s ++ codes "}"
 
-abbrev pub status_reply : (made : ℕ) → Status → ReplyView
-status_reply made s = json_reply (status_body made s)
+abbrev pub status_reply : Option Drafting → Status → ReplyView
+status_reply told s = json_reply (status_body told s)
 
 -- ---- tiles
 

@@ -3,7 +3,7 @@ ghost use Rattle.std.specs.Prelude.{◌≡◌, Ok, IfOk};
 ghost use Rattle.http_serve.specs.Reply.{head_view, HasShortWords, IsWhole};
 ghost use Rattle.tile_routes.specs.Paths.{asked_action, asked_view};
 ghost use Rattle.tile_routes.specs.Targets.{asked_of};
-ghost use Rattle.tile_service.specs.Service.{status_of};
+ghost use Rattle.tile_service.specs.Service.{status_of, status_view};
 ghost use Rattle.map_replies.specs.Conditions.{ask_view};
 ghost use Rattle.map_replies.specs.Meanings.{MeansOnFeature, MeansView, MeansAction, Answers, AnswersAllowed, AnswersMethod, DiskFailed};
 ghost use Rattle.map_replies.specs.Sending.{IsAnswered, IsAnsweredInParts, SendsAllowed, SendsMethod};
@@ -58,7 +58,7 @@ impl<D: Sectors + Drop> Calls<D> {
     fn on_view(&mut self, view: View, method: Method, ask: Ask<'_>) -> Result<Reply, RequestFault>
         ensures answered { IsAnsweredInParts
             (Answers D.sectors D.honest D.history (MeansView (DiskFailed D.faults self.old.service self.new.service)
-            (status_of self.old.service) (status_of self.new.service) view method (ask_view ask.entry))
+            (status_of self.old.service) (status_view self.new.service) view method (ask_view ask.entry))
             self.old.service self.new.service)
             (SendsAllowed D.sectors D.honest D.history D.faults (asked_view view) method
             (ask_view ask.entry) self.old.service self.new.sending self.new.service) result }
@@ -77,7 +77,7 @@ impl<D: Sectors + Drop> Calls<D> {
     fn on_action(&mut self, action: Action, body: &[u8]) -> Result<Reply, RequestFault>
         ensures answered { IsAnswered (Answers D.sectors D.honest D.history
             (MeansAction (DiskFailed D.faults self.old.service self.new.service)
-            (status_of self.old.service) (status_of self.new.service) action body.now)
+            (status_of self.old.service) (status_view self.new.service) action body.now)
             self.old.service self.new.service) result }
         ensures writable { IfOk result IsWhole }
         ensures held { KeepsTickets D.honest D.history self.old self.new }

@@ -7,7 +7,7 @@ ghost use Rattle.http_serve.specs.Reply.{reply_view, IsWhole};
 ghost use Rattle.serde_json.specs.Written.{compact_text};
 ghost use Rattle.tile_service.specs.Machine.{OrMemory, tile, look, look_from, metadata};
 ghost use Rattle.tile_service.specs.Runs.{Takes};
-ghost use Rattle.tile_service.specs.Service.{status_of};
+ghost use Rattle.tile_service.specs.Service.{status_view};
 ghost use Rattle.map_replies.specs.Bodies.{IsJson};
 ghost use Rattle.map_replies.specs.Meanings.{MeansCall, MeansLook, MeansTagged, MeansTile, MeansStatus, OrNoMemory, Answers, DiskFailed};
 ghost use Rattle.map_replies.specs.Sending.{IsAnswered, IsShownAs};
@@ -80,14 +80,6 @@ fn numbered_value(alloc: Global, id: u64, feature: FeatureText<'_>) -> Result<Re
     match numbered_body(alloc, &feature, id) {
         Ok(text) => Ok(replies::json(text)),
         Err(AllocError) => Err(RequestFault::Memory),
-    }
-}
-
-/// How many tiles of the publication in the making are made, 0 if there is none.
-fn tiles_made<D: Sectors + Drop>(service: &Service<D>) -> u64 {
-    match service.drafting() {
-        Some(drafting) => drafting.made,
-        None => 0,
     }
 }
 
@@ -187,7 +179,7 @@ impl<D: Sectors + Drop> Calls<D> {
     /// What the service tells of itself, once its disk was asked whether it still keeps what is written.
     pub(crate) fn status(&mut self) -> Result<Reply, RequestFault>
         ensures answered { IsAnswered (Answers D.sectors D.honest D.history
-            (OrNoMemory (MeansStatus (DiskFailed D.faults self.old.service self.new.service) (status_of self.new.service)))
+            (OrNoMemory (MeansStatus (DiskFailed D.faults self.old.service self.new.service) (status_view self.new.service)))
             self.old.service self.new.service) result }
         ensures writable { IfOk result IsWhole }
         ensures held { KeepsTickets D.honest D.history self.old self.new }
@@ -198,8 +190,7 @@ impl<D: Sectors + Drop> Calls<D> {
         };
         // The status tells what came of it.
         let _ = self.service.check();
-        let made = tiles_made(&self.service);
-        Ok(telling::told(text, made, self.service.status()))
+        Ok(telling::told(text, self.service.drafting(), self.service.status()))
     }
 
     /// The metadata of the map.

@@ -10,7 +10,7 @@ use crate::replies;
 use http_serve::Reply;
 use http_values::{MAX_DIGITS, push_number, push_text};
 use std::alloc::{AllocError, Global};
-use tile_service::Status;
+use tile_service::{Drafting, Status};
 
 /// Capacity for a part: three numbers, and the texts between them.
 const MAX_PART: usize = 3 * MAX_DIGITS + 44;
@@ -67,44 +67,47 @@ fn push_broken_part(out: &mut Vec<u8>, status: Status)
     push_text(out, b"\"");
 }
 
-/// Adds how far a publication in the making is: how many tiles are made, and how many places of the journal were in use when it began.
+/// Adds how far a publication in the making is: how many tiles are made, how many entries they need, and how many places of the journal were in use
+/// when it began.
 #[tactic(auto, unfolding(crate::specs::Words::making_text))]
-fn push_making(out: &mut Vec<u8>, made: u64, places: u64)
-    requires room { vec_len out.old + 2 * MAX_DIGITS + 20 ≤ vec_capacity out.old }
-    ensures items { out.new.items ≡ out.old.items ++ making_text made places }
-    ensures len { vec_len out.new ≤ vec_len out.old + 2 * MAX_DIGITS + 20 }
+fn push_making(out: &mut Vec<u8>, drafting: Drafting)
+    requires room { vec_len out.old + 3 * MAX_DIGITS + 30 ≤ vec_capacity out.old }
+    ensures items { out.new.items ≡ out.old.items ++ making_text drafting }
+    ensures len { vec_len out.new ≤ vec_len out.old + 3 * MAX_DIGITS + 30 }
     ensures capacity { vec_capacity out.old ≤ vec_capacity out.new }
 {
-    push_text(out, b"{\"made\":");
-    push_number(out, made);
+    push_text(out, b"{\"entries\":");
+    push_number(out, drafting.entries);
+    push_text(out, b",\"made\":");
+    push_number(out, drafting.made);
     push_text(out, b",\"places\":");
-    push_number(out, places);
+    push_number(out, drafting.places);
     push_text(out, b"}");
 }
 
 /// Adds the same, or `null` if there is none.
-fn push_draft(out: &mut Vec<u8>, made: u64, places: Option<u64>)
-    requires room { vec_len out.old + 2 * MAX_DIGITS + 20 ≤ vec_capacity out.old }
-    ensures items { out.new.items ≡ out.old.items ++ draft_text made places }
-    ensures len { vec_len out.new ≤ vec_len out.old + 2 * MAX_DIGITS + 20 }
+fn push_draft(out: &mut Vec<u8>, drafting: Option<Drafting>)
+    requires room { vec_len out.old + 3 * MAX_DIGITS + 30 ≤ vec_capacity out.old }
+    ensures items { out.new.items ≡ out.old.items ++ draft_text drafting }
+    ensures len { vec_len out.new ≤ vec_len out.old + 3 * MAX_DIGITS + 30 }
     ensures capacity { vec_capacity out.old ≤ vec_capacity out.new }
 {
-    match places {
-        Some(places) => push_making(out, made, places),
+    match drafting {
+        Some(drafting) => push_making(out, drafting),
         None => push_text(out, b"null"),
     }
 }
 
-/// Adds how far the publication in the making is, of which so many tiles are made.
+/// Adds how far the publication in the making is.
 #[tactic(auto, unfolding(crate::specs::Words::draft_part))]
-fn push_draft_part(out: &mut Vec<u8>, made: u64, status: Status)
+fn push_draft_part(out: &mut Vec<u8>, drafting: Option<Drafting>)
     requires room { vec_len out.old + MAX_PART ≤ vec_capacity out.old }
-    ensures items { out.new.items ≡ out.old.items ++ draft_part made status }
+    ensures items { out.new.items ≡ out.old.items ++ draft_part drafting }
     ensures len { vec_len out.new ≤ vec_len out.old + MAX_PART }
     ensures capacity { vec_capacity out.old ≤ vec_capacity out.new }
 {
     push_text(out, b",\"drafting\":");
-    push_draft(out, made, status.drafting);
+    push_draft(out, drafting);
 }
 
 /// Adds how many edits, features and publications there are.
@@ -194,15 +197,15 @@ pub(crate) fn status_space(alloc: Global) -> Result<Vec<u8>, AllocError>
 
 /// The whole text.
 #[tactic(auto, unfolding(crate::specs::Words::status_body))]
-fn status_body(text: Vec<u8>, made: u64, status: Status) -> Vec<u8>
+fn status_body(text: Vec<u8>, drafting: Option<Drafting>, status: Status) -> Vec<u8>
     requires empty { text.items ≡ [] }
     requires room { MAX_STATUS ≤ vec_capacity text }
-    ensures { result.items ≡ status_body made status }
+    ensures { result.items ≡ status_body drafting status }
 {
     let mut text = text;
     push_archive_part(&mut text, status);
     push_broken_part(&mut text, status);
-    push_draft_part(&mut text, made, status);
+    push_draft_part(&mut text, drafting);
     push_map_part(&mut text, status);
     push_journal_part(&mut text, status);
     push_published_part(&mut text, status);
@@ -211,12 +214,12 @@ fn status_body(text: Vec<u8>, made: u64, status: Status) -> Vec<u8>
     text
 }
 
-/// The reply with a status. Of a publication in the making so many tiles are made.
-pub(crate) fn told(text: Vec<u8>, made: u64, status: Status) -> Reply
+/// The reply with a status, and with what is told of the publication in the making.
+pub(crate) fn told(text: Vec<u8>, drafting: Option<Drafting>, status: Status) -> Reply
     requires empty { text.items ≡ [] }
     requires room { MAX_STATUS ≤ vec_capacity text }
-    ensures reply { reply_view [] result ≡ status_reply made status }
+    ensures reply { reply_view [] result ≡ status_reply drafting status }
     ensures writable { IsWhole result }
 {
-    replies::json(status_body(text, made, status))
+    replies::json(status_body(text, drafting, status))
 }

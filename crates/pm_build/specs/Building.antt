@@ -23,6 +23,10 @@ AreTooMany tiles = (runs : List TileRun) × AreLongestRuns tiles runs × (MAX_EN
 abbrev pub AreFew : List Tile → Type 0
 AreFew tiles = (runs : List TileRun) × AreLongestRuns tiles runs × (length runs ≤ MAX_ENTRIES)
 
+-- an archive of the tiles has this many entries: one for each of their longest runs
+abbrev pub NeedEntries : List Tile → (count : ℕ) → Type 0
+NeedEntries tiles count = (runs : List TileRun) × AreLongestRuns tiles runs × (count ≡ length runs)
+
 -- the tile begins a run: it doesn't continue the last one of the tiles before it
 abbrev pub BeginsRun : List Tile → Tile → Type 0
 BeginsRun tiles t = (runs : List TileRun) × AreLongestRuns tiles runs × (goes_on_last runs t ≡ false)

@@ -4,7 +4,7 @@ ghost use Rattle.pm_header.specs.declared.header.TheConstants.{HEADER_BYTES};
 ghost use Rattle.std.specs.Prelude.{◌≡◌, ◌≢◌, ◌+◌, ◌≤◌, ◌^◌, ◌↔◌, [], ◌∷◌, ◌++◌, length, Err, OnOk, OnErr, IfOk, IsTrue};
 ghost use Rattle.std.specs.List.{concat};
 ghost use Rattle.pm_build.specs.Bounded.{IsSize};
-ghost use Rattle.pm_build.specs.Building.{CanAdd, AreTooMany, AreFew, BeginsRun};
+ghost use Rattle.pm_build.specs.Building.{CanAdd, AreTooMany, AreFew, NeedEntries, BeginsRun};
 ghost use Rattle.pm_build.specs.Different.{contents_of};
 ghost use Rattle.pm_metadata.specs.Archive.{IsMetadata};
 ghost use Rattle.pm_build.specs.Built.{tile_content, archive_bytes};
@@ -94,6 +94,13 @@ impl ArchiveBuilder {
         ensures bounded { result ≤ 2 ^ 49 }
     {
         self.contents.index().total()
+    }
+
+    /// The number of entries that an archive of the tiles that were added has, at most `MAX_ENTRIES`.
+    pub fn entries(&self) -> usize
+        ensures { NeedEntries self.now.tiles result }
+    {
+        self.runs.len()
     }
 
     /// Puts bytes ahead of the tile whose content is added next: the first bytes of its content, or those after the ones that are ahead. They

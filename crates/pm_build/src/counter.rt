@@ -4,7 +4,7 @@ ghost use Rattle.pm_header.specs.declared.header.TheConstants.{HEADER_BYTES};
 ghost use Rattle.std.specs.Prelude.{◌≡◌, ◌≢◌, ◌+◌, ◌<◌, ◌≤◌, ◌^◌, ◌↔◌, ℕ, List, [], ◌∷◌, ◌++◌, length, true, false, Err, Some, OnOk, OnErr, IfOk, Contains};
 ghost use Rattle.std.specs.List.{concat};
 ghost use Rattle.pm_build.specs.Bounded.{IsSize};
-ghost use Rattle.pm_build.specs.Building.{CanAdd, AreTooMany, AreFew, BeginsRun};
+ghost use Rattle.pm_build.specs.Building.{CanAdd, AreTooMany, AreFew, NeedEntries, BeginsRun};
 ghost use Rattle.pm_build.specs.Counted.{IsPlaceAmong, IsPlaceOf};
 ghost use Rattle.pm_build.specs.Different.{content_at, contents_of, with_content};
 ghost use Rattle.pm_build.specs.Firsts.{AreFirsts};
@@ -151,6 +151,13 @@ impl ArchiveCounter {
         self.last = content;
         self.addressed += 1;
         Ok(())
+    }
+
+    /// The number of entries that an archive of the tiles that were added has, at most `MAX_ENTRIES`.
+    pub fn entries(&self) -> usize
+        ensures { NeedEntries self.now result }
+    {
+        self.runs.len()
     }
 
     /// The length in bytes of the archive of the tiles that were added, with this metadata, a JSON object: that of what

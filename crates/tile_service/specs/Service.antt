@@ -22,7 +22,7 @@ use Rattle.edit_journal.specs.declared.journal.JournalPosition.{JournalPosition}
 use Rattle.edit_journal.specs.declared.sizes.TheConstants.{PART_BYTES}
 use Rattle.cached_map.specs.Cached.{CachedView, AreReadRight, shared_bytes}
 use Rattle.area_content.specs.Content.{ContentView, sectors_taken}
-use Rattle.area_content.specs.Drafts.{DraftView}
+use Rattle.area_content.specs.Drafts.{HasAdded, DraftView}
 use Rattle.area_content.specs.declared.draft.Stage.TheVariants as stages
 use Rattle.edit_text.specs.Recorded.{RecordedEdit}
 use Rattle.feature_model.specs.declared.limits.TheConstants.{NUMBER_END}
@@ -39,6 +39,7 @@ use Rattle.tile_cache.specs.declared.touch_grid.TheConstants.{LEVEL_CELLS}
 use Rattle.published_tiles.specs.declared.place.ArchivePlace.{ArchivePlace}
 use Rattle.tile_service.specs.Drafted.{DraftedView, IsDrafted}
 use Rattle.tile_service.specs.declared.drafting.Draft.{Draft}
+use Rattle.tile_service.specs.declared.drafting.Drafting.{Drafting}
 use Rattle.tile_service.specs.declared.drafting.DraftStage.{DraftStage}
 use Rattle.tile_service.specs.declared.drafting.DraftStage.TheVariants.{Reading, Going, Found, Refused}
 use Rattle.tile_service.specs.declared.metadata_steps.MapMetadata.{MapMetadata}
@@ -162,6 +163,7 @@ pub record IsGoingDraft (size : ℕ) (root : Root) (journal : Journal) (features
   -- the texts of the features came from those of its map and from the records after those
   pub texts : length (snapshot features) ≤ SECTOR_BYTES * sectors_of (length (snapshot m)) + PART_BYTES * (journal.used - d.places)
   pub stage : IsStage (area_sectors size) m d.stage
+  pub added : HasAdded m d.added
 
 -- the invariants of a service whose disk has this many sectors, and that keeps this of its map's metadata, if any
 pub record IsService (sectors size version : ℕ) (root : Root) (journal kept_journal : Journal) (map : CachedView)
@@ -208,6 +210,14 @@ BeginsDrafted size d (Ok left) publication =
     (content : ContentView) × IsContentOf (area_sectors size) d.features content × (publication ≡ Some (publication_of d content))
     × (left ≡ sectors_taken content + 1)
 BeginsDrafted size d (Err fault) publication = (publication ≡ None) × HasNoContent d.features (area_sectors size) fault
+
+-- What is told of a draft: so many tiles of its map are made, all with ids below one, an archive of them has so many entries, and so many
+-- places were in use.
+abbrev pub IsToldOf : Option DraftedView → Option Drafting → Type 0
+IsToldOf None None = Unit {0}
+IsToldOf None (Some told) = ⊥
+IsToldOf (Some d) None = ⊥
+IsToldOf (Some d) (Some told) = HasAdded d.features (record { count = told.made; entries = told.entries }) × (told.places ≡ d.places)
 
 -- a draft is as it was, or gone
 abbrev pub KeepsDraft : (old new : Option DraftedView) → Type 0
@@ -280,6 +290,14 @@ status_of service = record {
   left = option_map left_of service.publication;
   broken = service.broken;
 }
+
+-- the same with the publication in the making that it is told of
+pub record StatusView : Type 0 where
+  pub status : Status
+  pub drafting : Option DraftedView
+
+abbrev pub status_view : {D : Type 0} → ServiceView D → StatusView
+status_view service = record { status = status_of service; drafting = service.drafting }
 
 -- ---- the service and its disk
 

@@ -1,12 +1,14 @@
 //! A publication in the making: its map is fixed, its tiles are made part by part, and edits go on meanwhile.
-ghost use Rattle.std.specs.Prelude.{◌≡◌, ◌<◌, ◌-◌, ◌^◌, ℕ, true, false, None, Some, Err, IfOk, IfErr, IfSome, OnOk, OnErr, IsSome, option_map};
+ghost use Rattle.std.specs.Prelude.{◌≡◌, ◌<◌, ◌-◌, ◌^◌, ℕ, true, false, None, Some, Err, IfOk, IfErr, IfSome, OnOk, OnErr, IsSome};
+ghost use Rattle.area_content.specs.Drafts.{HasAdded};
 ghost use Rattle.area_content.specs.declared.draft.Stage.TheVariants as stages;
 ghost use Rattle.feature_store.specs.Moments.{IsAsOf, IsMomentOf, moment_map};
 ghost use Rattle.feature_store.specs.Reading.{IsRead};
+ghost use Rattle.feature_store.specs.Store.{FeatureMap};
 ghost use Rattle.map_metadata.specs.Metadata.{IsMetadataOf};
 ghost use Rattle.tile_service.specs.Machine.{AnswersBegin};
 ghost use Rattle.tile_service.specs.Prepared.{CanPrepare};
-ghost use Rattle.tile_service.specs.Service.{Known, IsUp, IsMaking, IsReading, IsStage, IsOwn, BeginsDrafted, drafted_now, map_then, state_of};
+ghost use Rattle.tile_service.specs.Service.{Known, IsUp, IsMaking, IsReading, IsStage, IsOwn, IsToldOf, BeginsDrafted, drafted_now, map_then, state_of};
 ghost use Rattle.tile_service.specs.Stored.{Stored};
 ghost use Rattle.tile_service.specs.declared.fault.ServiceFault.TheVariants.{Broken, Busy, Idle, Memory};
 
@@ -15,7 +17,7 @@ use crate::letting_go::{let_go, let_moment_go, let_stage_go, refused, unread};
 use crate::publishing::{Publication, to_service_fault};
 use crate::reading::MapReading;
 use crate::service::Service;
-use area_content::{AreaContent, ContentDraft};
+use area_content::{AddedTiles, AreaContent, ContentDraft};
 use edit_journal::JournalPosition;
 use feature_store::{Moment, Store};
 use sector_disk::Sectors;
@@ -42,7 +44,7 @@ pub(crate) struct Draft {
     /// How many of its places were in use then.
     pub(crate) places: u64,
     /// How many tiles are made.
-    pub(crate) made: u64,
+    pub(crate) added: AddedTiles,
     /// The content of the map.
     pub(crate) stage: DraftStage,
 }
@@ -50,6 +52,8 @@ pub(crate) struct Draft {
 /// How far a draft is: what is told of it.
 #[derive(Clone, Copy, Debug)]
 pub struct Drafting {
+    /// How many entries an archive of the tiles that are made has.
+    pub entries: u64,
     /// How many tiles are made.
     pub made: u64,
     /// How many places of the journal were in use when it began.
@@ -215,12 +219,24 @@ fn is_going(draft: &Option<Draft>) -> bool {
     }
 }
 
-/// How many tiles are made after a step that left this stage, if `before` were made before it: the last step makes none, and neither does one
+/// No tile is made.
+fn none_added() -> AddedTiles
+    ensures { (m : FeatureMap) → HasAdded m result }
+{
+    AddedTiles {
+        count: 0,
+        entries: 0,
+    }
+}
+
+/// How many tiles are made after a step that left this stage, if so many were made before it: the last step makes none, and neither does one
 /// after it.
-fn tiles_made(before: u64, stage: &DraftStage) -> u64 {
+fn added_by(before: AddedTiles, stage: &DraftStage) -> AddedTiles
+    ensures { (m : FeatureMap) → HasAdded m before → IsOwn m stage.now → HasAdded m result }
+{
     match stage {
         DraftStage::Reading(_) => before,
-        DraftStage::Going(content) => content.made(),
+        DraftStage::Going(content) => content.added(),
         DraftStage::Found(_) => before,
         DraftStage::Refused(_) => before,
     }
@@ -229,11 +245,12 @@ fn tiles_made(before: u64, stage: &DraftStage) -> u64 {
 impl<D: Sectors + Drop> Service<D> {
     /// How far the publication in the making is, if there is one. It doesn't allocate.
     pub fn drafting(&self) -> Option<Drafting>
-        ensures { option_map (λ d. d.places) result ≡ option_map (λ d. d.places) self.now.drafting }
+        ensures { IsToldOf self.now.drafting result }
     {
         match &self.draft {
             Some(draft) => Some(Drafting {
-                made: draft.made,
+                entries: draft.added.entries,
+                made: draft.added.count,
                 places: draft.places,
             }),
             None => None,
@@ -259,7 +276,7 @@ impl<D: Sectors + Drop> Service<D> {
                 let draft = self.draft.replace(Draft {
                     start,
                     places,
-                    made: 0,
+                    added: none_added(),
                     stage: DraftStage::Reading(reading),
                 });
                 let_go(draft, moment);
@@ -279,7 +296,7 @@ impl<D: Sectors + Drop> Service<D> {
                 let before = self.draft.replace(Draft {
                     start: draft.start,
                     places: draft.places,
-                    made: tiles_made(draft.made, &stage),
+                    added: added_by(draft.added, &stage),
                     stage,
                 });
                 let_go(before, None);

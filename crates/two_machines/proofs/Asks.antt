@@ -8,6 +8,7 @@ use Rattle.tile_routes.specs.declared.method.Method.{Method}
 use Rattle.tile_routes.specs.Methods.{method_on}
 use Rattle.tile_routes.specs.Paths.{Asked, asked_numbered}
 use Rattle.tile_service.specs.Machine.{Happening}
+use Rattle.tile_service.specs.Service.{StatusView}
 use Rattle.tile_service.specs.declared.status.Status.{Status}
 use Rattle.map_replies.specs.Conditions.{AskView, needed, refuses}
 use Rattle.map_replies.specs.Confirming.{asks_to_edit}
@@ -29,7 +30,7 @@ module _ (first : ℕ) (edits : List EditData) where
   unless_given failed old query number body true reply happenings said is = none_given first edits old.edits happenings is.1
   unless_given failed old query number body false reply happenings said is = given failed first edits old query number body reply happenings said is
 
-  numbered_given : (failed : Type 0) (old new : Status) (number : ℕ) (method : Result Method RouteFault) (ask : AskView) (body : List ℕ)
+  numbered_given : (failed : Type 0) (old : Status) (new : StatusView) (number : ℕ) (method : Result Method RouteFault) (ask : AskView) (body : List ℕ)
       (reply : ReplyView) (happenings : List Happening) → SaysEditOf first edits number body
       → MeansMethod failed old new (asked_numbered number) method ask body reply happenings → AreGiven first edits old.edits happenings
   numbered_given failed old new number (Ok method) ask body reply happenings said is =
@@ -38,7 +39,7 @@ module _ (first : ℕ) (edits : List EditData) where
   numbered_given failed old new number (Err routes.NotAllowed) ask body reply happenings said is = none_given first edits old.edits happenings is.1
 
   -- whatever the method
-  pub means_given : (failed : Type 0) (old new : Status) (asked : Asked) (name : List ℕ) (method : Result Method RouteFault) (ask : AskView)
+  pub means_given : (failed : Type 0) (old : Status) (new : StatusView) (asked : Asked) (name : List ℕ) (method : Result Method RouteFault) (ask : AskView)
       (body : List ℕ) → method ≡ method_on name asked → AsksOf asked method body → (reply : ReplyView) (happenings : List Happening)
       → MeansMethod failed old new asked method ask body reply happenings → AreGiven first edits old.edits happenings
   means_given failed old new asked name method ask body on (inl other) reply happenings is =

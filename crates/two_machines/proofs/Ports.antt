@@ -12,7 +12,7 @@ use Rattle.tile_routes.specs.Methods.{method_on}
 use Rattle.tile_routes.specs.declared.access.Access.{Access}
 use Rattle.tile_service.specs.Machine.{Happening, begin, step, cancel}
 use Rattle.tile_service.specs.Runs.{acknowledged}
-use Rattle.tile_service.specs.Service.{ServiceView, status_of}
+use Rattle.tile_service.specs.Service.{ServiceView, status_of, status_view}
 use Rattle.tile_service.specs.declared.fault.ServiceFault.{ServiceFault}
 use Rattle.map_replies.specs.declared.calls.Calls.{Calls}
 use Rattle.map_replies.specs.declared.service.MapReplies.{MapReplies}
@@ -98,7 +98,7 @@ module _ {D : Type 0} (sectors : D → ℕ) (honest : D → Type 0) (history : D
       → IsAlong old → Readied old.replies.replies ready done → IsOfCourier first edits (access_of old.replies.replies) request
       → (happenings : List Happening)
       → Means (access_of ready) (tags_of ready) (DiskFailed faults (asked_service ready) (asked_service new.replies.replies))
-      (status_of (asked_service ready)) (status_of (asked_service new.replies.replies)) request reply happenings
+      (status_of (asked_service ready)) (status_view (asked_service new.replies.replies)) request reply happenings
       → last_in new.replies.replies ≡ last_in ready + length (acknowledged happenings) → new.run ≡ old.run ++ done ++ happenings → IsAlong new
   answered old new request reply done ready along so asks happenings means more is =
       let asks_ready : IsOfCourier first edits (access_of ready) request =
@@ -114,7 +114,7 @@ module _ {D : Type 0} (sectors : D → ℕ) (honest : D → Type 0) (history : D
       given_on [] first edits last old.run done along.given (quiet_given first edits (last + length (acknowledged old.run)) done so.quiet) in
       let these : AreGiven first edits (last_in ready) happenings =
       means_given first edits (DiskFailed faults (asked_service ready) (asked_service new.replies.replies))
-      (status_of (asked_service ready)) (status_of (asked_service new.replies.replies)) (asked_for (access_of ready) request) request.method
+      (status_of (asked_service ready)) (status_view (asked_service new.replies.replies)) (asked_for (access_of ready) request) request.method
       (method_on request.method (asked_for (access_of ready) request)) (ask_of (tags_of ready) request) request.body refl asks_ready reply happenings means in
       record {
         given = subst (AreGiven first edits last) (sym is)

@@ -67,6 +67,7 @@ module _ (size version : ℕ) (root : Root) (old new : Journal) (ring : ring_of 
           texts = texts_in (SECTOR_BYTES * sectors_of (length (snapshot (map_then moment)))) (old.used - d.places) (new.used - d.places)
               (omega (arith, used, was.1.behind.in_use)) was.1.texts;
           stage = was.1.stage;
+          added = was.1.added;
         },
       )
 

@@ -12,6 +12,8 @@ use Rattle.edit_journal.specs.declared.journal.Journal.{Journal}
 use Rattle.area_content.specs.Content.{ContentView, sectors_taken}
 use Rattle.area_content.specs.Faults.{IsContentFault, IsFull}
 use Rattle.area_content.specs.declared.fault.ContentFault.{ContentFault}
+use Rattle.area_content.specs.Drafts.{HasAdded}
+use Rattle.area_content.specs.declared.draft.AddedTiles.{AddedTiles}
 use Rattle.area_content.specs.declared.fault.ContentFault.TheVariants.{TooManyTiles, AreaFull, Memory}
 use Rattle.map_metadata.specs.Metadata.{IsMetadataOf}
 use Rattle.cached_map.specs.Cached.{CachedView}
@@ -93,11 +95,12 @@ draft_goes size root journal features m d content going is = record {
 
 -- A service whose draft is further has the invariants as before.
 pub service_drafting : {sectors size version : ℕ} {root : Root} {journal kept_journal : Journal} {map : CachedView} {publication : Option PublicationView}
-    {known : Option MapMetadata} {moment : Option MomentView} {draft : Option Draft} (old : Draft) (made : ℕ) (stage : DraftStage) → draft ≡ Some old
+    {known : Option MapMetadata} {moment : Option MomentView} {draft : Option Draft} (old : Draft) (added : AddedTiles) (stage : DraftStage) → draft ≡ Some old
     → ((area : ℕ) → IsStage area (map_then (moment_map moment)) old.stage → IsStage area (map_then (moment_map moment)) stage)
+    → ((m : FeatureMap) → HasAdded m old.added → IsOwn m stage → HasAdded m added)
     → IsService sectors size version root journal kept_journal map publication known moment draft
-    → IsService sectors size version root journal kept_journal map publication known moment (Some (record old { made = made; stage = stage }))
-service_drafting {size = size} {root = root} {journal} {map = map} {moment = moment} old made stage is further was =
+    → IsService sectors size version root journal kept_journal map publication known moment (Some (record old { added = added; stage = stage }))
+service_drafting {size = size} {root = root} {journal} {map = map} {moment = moment} old added stage is further more was =
     let going = subst (λ (o : Option Draft). IfSome o (λ d. (moment_map moment ≡ Some (map_then (moment_map moment)))
     × IsGoingDraft size root journal map.features (map_then (moment_map moment)) d)) is was.drafts in
     record {
@@ -119,6 +122,8 @@ service_drafting {size = size} {root = root} {journal} {map = map} {moment = mom
           generation = going.1.generation;
           texts = going.1.texts;
           stage = further (area_sectors size) going.1.stage;
+          added = more (map_then (moment_map moment)) going.1.added
+              (own_stage (area_sectors size) (map_then (moment_map moment)) stage (further (area_sectors size) going.1.stage));
         },
       );
     }

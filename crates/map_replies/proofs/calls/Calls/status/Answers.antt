@@ -1,5 +1,5 @@
 use Rattle.tile_service.specs.Machine.{check}
-use Rattle.tile_service.specs.Service.{status_of}
+use Rattle.tile_service.specs.Service.{IsToldOf, status_of}
 use Rattle.tile_service.proofs.Runs.Callers.{check_step}
 use Rattle.map_replies.specs.Words.{status_reply}
 use Rattle.map_replies.specs.Meanings.{DiskFailed, MeansChange}
@@ -12,12 +12,13 @@ pub returns-clause-answered : goal.returns-clause-answered
 returns-clause-answered g c =
     let d = g.D.Sectors in
     let call = c.check.ensures in
-    let made = c.tiles_made-made.result in
+    let told = c.drafting.result in
     let status = status_of c.check.new.self in
-    some_first d.sectors d.honest d.history made
-    (λ made. MeansChange (DiskFailed d.faults c.args.self.now.service c.check.new.self) check (λ outcome. status_reply made status)) _ _ _
-    (changed_first d.sectors d.honest d.history _ _ check (λ outcome. status_reply made status) _ _ c.check.result _
-    (c.told.ensures.reply ∙ ap (status_reply made) c.status.ensures) call.failed
+    some_first d.sectors d.honest d.history told (IsToldOf c.check.new.self.drafting)
+    (λ told. MeansChange (DiskFailed d.faults c.args.self.now.service c.check.new.self) check (λ outcome. status_reply told status)) _ _ _
+    c.drafting.ensures
+    (changed_first d.sectors d.honest d.history _ _ check (λ outcome. status_reply told status) _ _ c.check.result _
+    (c.told.ensures.reply ∙ ap (status_reply told) c.status.ensures) call.failed
     (check_step d.sectors d.honest d.history _ _ c.check.result call.machine (ap (λ s. s.size) call.same) (ap (λ s. s.touched) call.same)
     (inl (ap (λ s. s.drafting) call.same)) call.disk call.refused call.any_moment call.after call.archive call.edits))
 
