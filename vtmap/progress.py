@@ -8,6 +8,7 @@ from collections.abc import Iterable, Iterator
 from typing import Any, TypeVar
 
 from .faults import Fault
+from .limits import MOST_ENTRIES
 from .shown import shown
 
 EACH = 1000
@@ -71,7 +72,8 @@ class Tiles:
                     return
                 drafting = status.get("drafting")
                 if drafting and not self.is_over.is_set():
-                    print(f"        {drafting['made']:,} tiles made so far", flush=True)
+                    taken = f", {drafting['entries']:,} of the {MOST_ENTRIES:,} entries of an archive" if "entries" in drafting else ""
+                    print(f"        {drafting['made']:,} tiles made so far{taken}", flush=True)
         except Fault:
             # Whoever waits for the publication is told what is wrong.
             pass

@@ -270,6 +270,39 @@ def many_entries(cases: Cases, folder: str) -> None:
                 cases.show("operation: and the metric", f"vtserve_archive_entries {entries}\n" in file.read(), True)
         with Between(server, instead=lambda _, path: (403, b"no") if path == "/map.pmtiles" else None) as between:
             cases.show("operation: vtmap watch, an archive that isn't for it", watched("--url", between.url)[0], 0)
+        told = status(server)
+        for drafting, code in [
+            ({"made": 120000, "places": 1}, 0),
+            ({"entries": 104857, "made": 120000, "places": 1}, 0),
+            ({"entries": 104858, "made": 120000, "places": 1}, 1),
+        ]:
+            part = 200, json.dumps({**told, "drafting": drafting}).encode()
+            with Between(
+                server, instead=lambda _, path, part=part: part if path == "/admin/status" else None
+            ) as between:
+                found, lines = watched("--url", between.url, "--metrics", os.path.join(folder, "entries.prom"))
+            there = drafting.get("entries", 0)
+            said = lines[0].startswith(f"the archive in the making has already {there:,} entries, and may have 131,072")
+            cases.show(f"operation: vtmap watch, {there:,} entries so far", (found, said), (code, code == 1))
+            with open(os.path.join(folder, "entries.prom"), encoding="utf-8") as file:
+                cases.show("operation: and its metric", f"vtserve_drafted_entries {there}\n" in file.read(), True)
+
+
+def published_and_told(server, *more):
+    """Runs `vtmap publish` of a server, and what its status tells meanwhile of the publication in the making."""
+    found, is_over = [], threading.Event()
+
+    def look():
+        while not is_over.is_set():
+            drafting = status(server)["drafting"]
+            found.extend([drafting] if drafting else [])
+
+    looks = threading.Thread(target=look)
+    looks.start()
+    told = subprocess.run([*PUBLISH, server.url, *more], capture_output=True, text=True)
+    is_over.set()
+    looks.join()
+    return told, found
 
 
 def too_many_tiles(cases: Cases, folder: str) -> None:
@@ -288,7 +321,8 @@ def too_many_tiles(cases: Cases, folder: str) -> None:
 
     with Server(folder, "tiles", 262144) as server:
         put(server, range(8000))
-        told = [subprocess.run([*PUBLISH, server.url, "--record", record], capture_output=True, text=True)]
+        published, drafts = published_and_told(server, "--record", record)
+        told = [published]
         code, lines = tool("watch", "--url", server.url, "--record", record)
         found = re.match(r"the archive has ([\d,]+) entries, and may have 131,072", lines[0])
         # Of each point a tile of its own at each of 13 zooms.
@@ -299,8 +333,24 @@ def too_many_tiles(cases: Cases, folder: str) -> None:
         )
         counted = found and int(found[1].replace(",", "")) >= 13 * 8000
         cases.show("operation: whose entries it counts", counted or lines, True)
+        taken = int(found[1].replace(",", "")) if found else 0
+        said = f"warning: the archive has {taken:,} entries" in told[0].stdout
+        cases.show("operation: vtmap publish says so too", said, True)
+        # No two neighbours are equal here: each tile needs an entry.
+        numbers = [(draft["entries"], draft["made"]) for draft in drafts]
+        cases.show(
+            "operation: meanwhile the status told how many there were so far",
+            (len(set(numbers)) > 2, numbers == sorted(numbers), all(one == other <= taken for one, other in numbers)),
+            (True, True, True),
+        )
         put(server, range(8000, 10000))
-        told.append(subprocess.run([*PUBLISH, server.url, "--record", record], capture_output=True, text=True))
+        published, drafts = published_and_told(server, "--record", record)
+        told.append(published)
+        cases.show(
+            "operation: and of one that no archive takes, up to as many as one may have",
+            104858 < max(draft["entries"] for draft in drafts) <= 131072,
+            True,
+        )
         code, lines = tool("watch", "--url", server.url, "--record", record)
         then = (
             "(the map has too many tiles for an archive: end features at a smaller zoom, or take a part of them to a"

@@ -217,6 +217,17 @@ def near_the_end_of_an_archive(cases: Cases, folder: str) -> None:
             found = [line for line in lines if line.startswith("warning: an archive has at most 131,072 entries")]
             said = [f"The one that was published last has {there:,}: " in line for line in found]
             cases.show(f"short files: ten tiles beside {there:,} entries", (code, said), (0, [True] if warns else []))
+        told = status(server)
+        for there, warns in ((131062, False), (131063, True)):
+            drafting = {"entries": there, "made": there, "places": 1}
+            part = 200, json.dumps({**told, "drafting": drafting}).encode()
+            with Between(
+                server, instead=lambda _, path, part=part: part if path == "/admin/status" else None
+            ) as between:
+                code, lines = imported(path, between.url, "--layer", "p", "--minzoom", "14", "--dry-run")
+            found = [line for line in lines if line.startswith("warning: an archive has at most 131,072 entries")]
+            said = [f"The one in the making has {there:,}: " in line for line in found]
+            cases.show(f"short files: beside {there:,} in the making", (code, said), (0, [True] if warns else []))
 
 
 def zipped(cases: Cases, folder: str) -> None:

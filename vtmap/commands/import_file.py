@@ -7,6 +7,7 @@ import json
 import os
 import sys
 
+from ..client import entries
 from ..client.client import NO_CHECKS, Client
 from ..client.schema import schema_at
 from ..faults import Fault, NoAnswer, Stopped
@@ -24,7 +25,6 @@ from .ids import told_ranges
 from .import_options import MAXZOOM, has_ids
 from .plan import Plan
 from .sizes import Room
-from .watch import entries
 
 UNKNOWN = "the server tells nothing of itself (start it with --admin): which ids are free isn't known"
 
@@ -122,7 +122,8 @@ def tell_zooms(words: argparse.Namespace, client: Client) -> None:
 def has_room(words: argparse.Namespace, client: Client, status: Status | None, changes: Changes) -> bool:
     """Whether the server's disk has room for the changes, as far as a client knows. Prints what is needed."""
     sums, journal = changes.sizes(client.most)
-    for line in sums.lines(journal, (entries({**status}, client) or 0) if status else 0):
+    taken, where = entries.there(client, {**status}) if status else (0, "")
+    for line in sums.lines(journal, taken, where):
         print(line, flush=True)
     if status is None:
         return True

@@ -10,6 +10,7 @@ import time
 from typing import Any, NoReturn
 
 from ..archives.fetching import ARCHIVE
+from ..client import entries
 from ..client.client import Client, word
 from ..client.followers import Wait, said, seconds, told_late
 from ..client.refusals import STATUSES, WORDS, told
@@ -23,7 +24,8 @@ ABOUT = {"publish": """Publishes the map of a running `vtserve serve` by steps, 
 
     vtmap publish --changed --record /var/lib/vtserve-watch/published
 
-Where the server tells (--admin), it prints every two seconds how many tiles are made; and how many sectors are left after each step. A publication that somebody left under way is finished first; with --cancel it is dropped.
+Where the server tells (--admin), it prints every two seconds how many tiles are made, and how many of the 131,072 entries of an archive they
+need; and how many sectors are left after each step. It warns once an archive has 80 % of them. A publication that somebody left under way is finished first; with --cancel it is dropped.
 Interrupted, it cancels the publication once the server has answered; interrupted twice, it doesn't wait for that. If the server refuses a
 step, it says why and cancels the publication; it ends with 1 then, and if somebody else has cancelled the publication, or the server was
 restarted. --record keeps the outcome in a file, for `vtmap watch`.
@@ -148,6 +150,8 @@ class Publication:
             raise Ended(1, "dropped by somebody else or a restart",
                         "the publication is gone, and nothing is published: somebody cancelled it, or the server was restarted")
         print("published", flush=True)
+        for text in entries.many(entries.published(self.client), True):
+            print(f"warning: {text}", flush=True)
 
     def mark(self) -> int | str | None:
         """What each publication changes: its number, or else the archive's entity tag."""

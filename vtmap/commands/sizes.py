@@ -59,13 +59,13 @@ class Sizes:
         """The sectors of snapshot and archive."""
         return -(-self.snapshot // SECTOR) + -(-(self.archive + TILE_BYTES * len(self.tiles)) // SECTOR)
 
-    def lines(self, journal: int, entries: int = 0) -> Iterator[str]:
-        """What a user reads of them, of the sectors of the journal that they need, and of the entries that the published archive has."""
+    def lines(self, journal: int, entries: int = 0, where: str = "") -> Iterator[str]:
+        """What a user reads of them, of the sectors of the journal that they need, and of the entries that an archive of the map has, and which one."""
         many = "over 1,000,000" if len(self.tiles) >= MOST_TILES else f"up to {len(self.tiles):,}"
         yield f"to send: {counted(self.features, 'feature')}, {counted(self.points, 'point')}"
         yield f"needed beside what the disk has: {counted(journal, 'sector')} of the journal, about {self.area():,} of an area, {many} tiles"
         if len(self.tiles) + entries > MOST_ENTRIES:
-            there = f" The one that was published last has {entries:,}" if entries else ""
+            there = f" The one {where} has {entries:,}" if entries else ""
             yield f"warning: an archive has at most {MOST_ENTRIES:,} entries, and equal neighbours alone share one.{there}: {FEWER_TILES}"
 
 

@@ -14,14 +14,15 @@ from collections.abc import Iterable, Iterator
 from typing import Any, Optional
 
 from ..alive import ASKED
+from ..client import entries
 from ..client.client import Client, word
 from ..client.feed import THEN, WHY, have_other_maps
 from ..client.followers import NUMBER, Log
-from ..client.refusals import APART, STATUSES, WORDS, told
+from ..client.refusals import STATUSES, WORDS, told
 from ..ending import regular, replaced
 from ..faults import Fault, NoAnswer
 from ..files.attachments import LEAST_FREE, PATH, Attachments
-from ..limits import MOST_ENTRIES, SECTOR
+from ..limits import SECTOR
 from ..machine.machine import Machine
 from ..machine.map_file import MapHere
 
@@ -44,7 +45,7 @@ soon, 2 if something doesn't work any more (no server, a failed disk, a full jou
 monitors such as Nagios expect, and cron mails what is printed.
 
 It always sees a full journal, an area that is nearly full or that the next publication may not fit, an archive that has nearly as many
-entries as one may have, a publication that was left under way, a failed disk, a server that needs a standby and hears of none, and one that
+entries as one may have (also while the publication is in the making), a publication that was left under way, a failed disk, a server that needs a standby and hears of none, and one that
 doesn't answer. --state FILE keeps what was seen, for the next look: whether the journal fills before the next publication. --record FILE is what `vtmap publish --record` keeps:
 whether the last publication was refused, and when it was. --backups FOLDER is where vtserve-backup.service saves the map
 (map-2026-11-29.jsonl): whether the newest backup is older than --backup-hours. --standby URL is a server that `vtmap follow` keeps as this
@@ -83,6 +84,7 @@ METRICS = [
     ("features", "gauge", "The features of the map."),
     ("archive_bytes", "gauge", "The length of the published archive."),
     ("archive_entries", "gauge", "The entries of the published archive, of at most 131,072."),
+    ("drafted_entries", "gauge", "The entries so far of the archive that is being made, 0 if none is."),
     ("journal_used_sectors", "gauge", "The sectors of the journal that are used."),
     ("journal_sectors", "gauge", "The sectors of the journal."),
     ("area_used_sectors", "gauge", "The sectors of an area that the last publication takes."),
@@ -167,23 +169,10 @@ def fullness(status: Status, most: int) -> Iterator[Task]:
                      f"since have touched {stale:,} of {cells:,} cells. Publish now, and {LARGER}")
 
 
-def entries(status: Status, client: Client) -> Optional[int]:
-    """The entries of the published archive, by its header; None where it has no archive, or can't be asked for it."""
-    if not status["archive"]:
-        return None
-    try:
-        code, header = client.ask("GET", "/map.pmtiles", fields={"Range": "bytes=0-126"})
-    except NoAnswer:
-        return None
-    return int.from_bytes(header[80:88], "little") if code == 206 and len(header) == 127 else None
-
-
 def many_tiles(status: Status, most: int) -> Iterator[Task]:
-    """Whether the archive has nearly as many entries as one may have."""
-    used = status.get("entries")
-    if used is not None and used * 100 >= MOST_ENTRIES * most:
-        yield SOON, (f"the archive has {used:,} entries, and may have {MOST_ENTRIES:,}: beyond that no publication is made (TooManyTiles), and once the "
-                     f"journal is full no edit. End features at a smaller zoom, or {APART}")
+    """Whether the archive, or the one in the making, has nearly as many entries as one may have."""
+    for text in [*entries.many(entries.drafted(status), False, most), *entries.many(status.get("entries"), True, most)][:1]:
+        yield SOON, text
 
 
 def left(status: Status, client: Client, wait: float) -> Iterator[Task]:
@@ -249,8 +238,8 @@ def then_of(result: str) -> str:
 def backed_up(folder: str, now: float, most: float) -> Iterator[Task]:
     """Whether the newest backup in a folder is older than so many hours."""
     try:
-        with os.scandir(folder) as entries:
-            newest = max((entry.stat().st_mtime for entry in entries if fnmatch.fnmatch(entry.name, BACKUP) and entry.is_file()), default=None)
+        with os.scandir(folder) as found:
+            newest = max((entry.stat().st_mtime for entry in found if fnmatch.fnmatch(entry.name, BACKUP) and entry.is_file()), default=None)
     except OSError as fault:
         yield UNKNOWN, f"--backups: {fault}"
         return
@@ -370,6 +359,7 @@ def metrics(path: str, status: Optional[Status], result: int, name_of_map: Optio
         }
         others = [("stale_cells", "stale"), ("cells", "cells"), ("archive_entries", "entries")]
         values |= {name: status[member] for name, member in others if status.get(member) is not None}
+        values |= {"drafted_entries": entries.drafted(status) or 0}
         standby = status.get("standby") or {}
         values |= {f"standby_{name}": standby[member] for name, member in (("confirmed_edit", "confirmed"), ("heard_seconds", "heard"))
                    if standby.get(member) is not None}
@@ -386,7 +376,7 @@ def tasks(words: argparse.Namespace, client: Client, now: float) -> tuple[Option
     found += kept_files(words.files, words.backups, now, words.backup_hours) if words.files else []
     try:
         status = status_of(client)
-        status["entries"] = entries(status, client)
+        status["entries"] = entries.published(client) if status["archive"] else None
         found += [*fullness(status, words.at), *many_tiles(status, words.at), *left(status, client, words.wait)]
         found += speed(status, words.state, now, words.every) if words.state else []
         found += unconfirmed(status, client, words.wait)
