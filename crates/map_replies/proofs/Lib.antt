@@ -31,3 +31,4 @@ mod LimitNumbers
 mod WholeSteps
 mod OneMethod
 pub mod Quiet
+pub mod NumberedPuts

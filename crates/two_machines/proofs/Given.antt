@@ -17,7 +17,7 @@ pub says : (first : ℕ) (edits : List EditData) (number : ℕ) (cs : EditData) 
 says first edits number cs body taken json batch is = (cs, record { value = taken; json = json; batch = batch }, is)
 
 -- a body has one value
-one_value : (body : List ℕ) (d e : Data) → IsJson body d → IsJson body e → e ≡ d
+pub one_value : (body : List ℕ) (d e : Data) → IsJson body d → IsJson body e → e ≡ d
 one_value body d e is too = some_is (sym too.1 ∙ is.1)
   where
     value_in : Option Data → Data

@@ -4,5 +4,6 @@ mod Lists
 mod Quiet
 mod Stopped
 mod Given
+mod GivenPuts
 mod Asks
 mod Ports

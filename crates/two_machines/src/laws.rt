@@ -6,7 +6,8 @@ ghost use Rattle.http_serve.specs.Reply.{ReplyView};
 ghost use Rattle.serde_json.specs.Data.{Data};
 ghost use Rattle.edit_json.specs.Batches.{IsBatch};
 ghost use Rattle.map_replies.specs.Bodies.{IsJson};
-ghost use Rattle.map_replies.specs.Meanings.{MeansNumberedBatch, DiskFailed};
+ghost use Rattle.map_replies.specs.Meanings.{MeansNumberedBatch, MeansNumberedPut, DiskFailed};
+ghost use Rattle.map_replies.specs.Conditions.{AskView, needed};
 ghost use Rattle.feature_model.specs.Data.{EditData};
 ghost use Rattle.feature_store.specs.Store.{FeatureMap};
 ghost use Rattle.tile_service.specs.Machine.{Happening};
@@ -17,7 +18,7 @@ ghost use Rattle.begin_law.specs.Moments.{TakesBetweenReads, WasStoppedBetweenRe
 ghost use Rattle.map_replies.specs.Standby.{HasFirstEdits, IsEditOf, SaysEditOf};
 ghost use Rattle.map_replies.specs.Preparing.{TellsMeanwhileRead, TellsPreparedFor, inner_service, meanwhile, without_draft};
 ghost use Rattle.map_replies.specs.declared.preparing.PreparingReplies.{PreparingReplies};
-ghost use Rattle.two_machines.specs.Couriers.{TellsCourier};
+ghost use Rattle.two_machines.specs.Couriers.{SaysPutOf, TellsCourier};
 ghost use Rattle.two_machines.specs.Machines.{AreGiven, leader_edits, HoldsFirst, HoldOneMap};
 
 use sector_disk::Sectors;
@@ -63,6 +64,14 @@ pub fn a_numbered_edit_is_given<D: Sectors>()
     ensures { (first : ℕ) (edits : List EditData) (query : List ℕ) (number : ℕ) (body : List ℕ) (reply : ReplyView) (happenings : List Happening)
         (old new : ServiceView D) → SaysEditOf first edits number body
         → MeansNumberedBatch (DiskFailed D.faults old new) (status_of old) query number body reply happenings
+        → AreGiven first edits old.journal.last happenings }
+{}
+
+/// The same of a request that sets a feature under the number of a leader's edit: its body says the feature that this edit sets.
+pub fn a_numbered_feature_is_given<D: Sectors>()
+    ensures { (first : ℕ) (edits : List EditData) (id number : ℕ) (ask : AskView) (body : List ℕ) (reply : ReplyView)
+        (happenings : List Happening) (old new : ServiceView D) → SaysPutOf first edits id number body
+        → MeansNumberedPut (DiskFailed D.faults old new) (status_of old) ask.query (needed ask) id number body reply happenings
         → AreGiven first edits old.journal.last happenings }
 {}
 
