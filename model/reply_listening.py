@@ -194,7 +194,7 @@ def all_hold_too_much(script):
         Peer((100, A), comes=100, last=100, **deaf),
         Peer((200, A), comes=200, last=200, **deaf),
         Peer((300, A), (400, END), answered=[A], comes=300, last=300),
-        word=f"held {size * 5 // 2}", log=logged((1, 0, "write"), (2, 0, "write"), (4, 1, "closed"), (3, 0, "write")), time=60_200,
+        word=f"held {size * 2}", log=logged((1, 0, "write"), (2, 0, "write"), (4, 1, "closed"), (3, 0, "write")), time=60_200,
     )
     script.note("One whose peer reads goes on.")
     rate = 10_000

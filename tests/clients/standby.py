@@ -724,7 +724,10 @@ def histories(cases: Cases, folder: str) -> None:
 
 
 def replaced(cases, folder, put):
-    """A leader is replaced by an older copy of itself while it is followed: that has other edits under the same numbers, and the same last one."""
+    """A leader is replaced by an older copy of itself while it is followed, with other edits of the same numbers.
+
+    The last edit of both is the same.
+    """
     with Server(folder, "replaced", 4096) as leader:
         put(leader, 1)
         old = copied(leader, folder, "replaced_old")
@@ -742,7 +745,8 @@ def replaced(cases, folder, put):
                 child.send_signal(signal.SIGCONT)
                 lines = child.communicate(timeout=60)[0].splitlines()
                 said = "feature 2 of " + standby.url in lines[-1] and "put back from a copy" in lines[-1]
-                cases.show("standby: a leader that is replaced by an older copy meanwhile", (child.returncode, said), (1, True))
+                got = child.returncode, said
+                cases.show("standby: a leader that is replaced by an older copy meanwhile", got, (1, True))
                 edit = short({"changes": [{"put": 5, "feature": json.loads(feature())}]})
                 digests = digest_of(back), digest_of(standby)
                 replies = [curl(f"{standby.url}{AT}4?after={each}", "-X", "POST", body=edit) for each in digests]

@@ -52,4 +52,4 @@ module _ {D : Type 0} (sectors : D → ℕ) (honest : D → Type 0) (history : D
   pub if_differs : (query : List ℕ) (IsMeant : ReplyView → List Happening → Type 0) (old : ServiceView D) (reply : ReplyView)
       → agrees query (map_digest old.features) ≡ false → reply ≡ refusal_of Digest
       → Answers sectors honest history (IfAgrees (status_of old) query IsMeant) old old reply
-  if_differs query IsMeant old reply other is = ([], inr (other, is, refl), refl)
+  if_differs query IsMeant old reply other is = ([], inr (other, (is, refl)), refl)

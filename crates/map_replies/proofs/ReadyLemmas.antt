@@ -17,8 +17,9 @@ use Rattle.tile_routes.specs.declared.target.Action.TheVariants.{Publish, Publis
 use Rattle.tile_service.specs.Drafted.{DraftedView}
 use Rattle.tile_service.specs.Machine.{Happening, cancel}
 use Rattle.tile_service.specs.Prepared.{CanPrepare}
-use Rattle.tile_service.specs.Service.{PublicationView, ServiceView, IsUp, BeginsDrafted, drafted_now}
+use Rattle.tile_service.specs.Service.{PublicationView, ServiceView, IsToldOf, IsUp, BeginsDrafted, drafted_now}
 use Rattle.tile_service.specs.Stored.{Stored}
+use Rattle.tile_service.specs.declared.drafting.Drafting.{Drafting}
 use Rattle.tile_service.specs.declared.fault.ServiceFault.{ServiceFault}
 use Rattle.map_replies.specs.declared.calls.Calls.{Calls}
 use Rattle.map_replies.specs.declared.parts.Sending.{Sending}
@@ -33,6 +34,14 @@ use Rattle.map_replies.specs.Preparing.{undrafted, undrafted_calls}
 use Rattle.map_replies.specs.Sending.{SendsMethod}
 use Rattle.map_replies.specs.Tickets.{KeepsTickets}
 use Rattle.map_replies.specs.State.{access_of, asked_service}
+
+-- what is told of a draft has its places
+pub told_places : (drafting : Option DraftedView) (told : Option Drafting) → IsToldOf drafting told
+    → option_map (λ (d : Drafting). d.places) told ≡ option_map (λ (d : DraftedView). d.places) drafting
+told_places None None is = refl
+told_places None (Some told) is = absurd is
+told_places (Some d) None is = absurd is
+told_places (Some d) (Some told) is = ap (λ (n : ℕ). Some n) is.1
 
 pub none_if : {A : Type 0} (o : Option A) → is_some o ≡ false → o ≡ None
 none_if None is = refl

@@ -7,7 +7,7 @@ use Rattle.edit_json.specs.Batches.{IsFirstBatchFault}
 use Rattle.edit_json.specs.Checked.{IsFirstCheckedFault}
 use Rattle.edit_json.specs.Faults.{IsFirstJsonFault}
 use Rattle.map_replies.specs.declared.fault.RequestFault.{RequestFault}
-use Rattle.map_replies.specs.declared.fault.RequestFault.TheVariants.{NotFound, Json, Edit, Condition, Gone, Memory, Device, Damaged}
+use Rattle.map_replies.specs.declared.fault.RequestFault.TheVariants.{NotFound, Json, Edit, Condition, Gone, Digest, Memory, Device, Damaged}
 use Rattle.map_replies.specs.Bodies.{told_as, IsEditFault, IsJson, HasFault, HasBodyFault, HasBatchFault, HasCheckedFault}
 
 -- a fault that satisfies P is reported as out of memory or as itself
@@ -33,6 +33,7 @@ at_value IsFirst body d NotFound json is = absurd is
 at_value IsFirst body d Json json is = absurd is
 at_value IsFirst body d Condition json is = absurd is
 at_value IsFirst body d Gone json is = absurd is
+at_value IsFirst body d Digest json is = absurd is
 at_value IsFirst body d Memory json is = absurd is
 at_value IsFirst body d Device json is = absurd is
 at_value IsFirst body d Damaged json is = absurd is
