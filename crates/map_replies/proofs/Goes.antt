@@ -4,8 +4,8 @@ use Rattle.std.proofs.Common.{◌∙◌, append_assoc}
 use Rattle.std.proofs.lemmas.List.{append-nil}
 use Rattle.sector_disk.specs.Disk.{History}
 use Rattle.sector_disk.proofs.AskedLaws.{reads_none}
-use Rattle.begin_law.specs.Beside.{IsBeside, AreBeside}
-use Rattle.begin_law.specs.Moments.{WasRead}
+use Rattle.service_laws.specs.Beside.{IsBeside, AreBeside}
+use Rattle.service_laws.specs.Moments.{WasRead}
 use Rattle.tile_service.specs.declared.fault.ServiceFault.{ServiceFault}
 use Rattle.tile_service.specs.declared.fault.ServiceFault.TheVariants.{Device}
 use Rattle.tile_service.specs.Drafted.{DraftedView}

@@ -3,10 +3,10 @@ use Rattle.std.proofs.Common.{◌≡◌, ℕ, ◌+◌, List, [], ◌∷◌, Opti
 use Rattle.sector_disk.specs.Disk.{History}
 use Rattle.generations.specs.Areas.{area_sectors}
 use Rattle.area_content.specs.Content.{ContentView, sectors_taken}
-use Rattle.begin_law.specs.Begun.{IsBegunAt}
-use Rattle.begin_law.specs.Beside.{AreBeside}
-use Rattle.begin_law.proofs.Begun.{begun_then, refused_then}
-use Rattle.begin_law.proofs.Late.{none_still, publishes_on, takes_beside, up_bare}
+use Rattle.service_laws.specs.Begun.{IsBegunAt}
+use Rattle.service_laws.specs.Beside.{AreBeside}
+use Rattle.service_laws.proofs.Begun.{begun_then, refused_then}
+use Rattle.service_laws.proofs.Late.{none_still, publishes_on, takes_beside, up_bare}
 use Rattle.tile_service.specs.Machine.{Happening, begin, look, no_memory}
 use Rattle.tile_service.specs.Prepared.{CanPrepare, prepared}
 use Rattle.tile_service.specs.Publishing.{HasNoContent}

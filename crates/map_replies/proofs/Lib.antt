@@ -20,13 +20,11 @@ mod OldestLemmas
 mod Pushed
 mod ReadyLemmas
 mod Routed
-mod SendingLemmas
-mod StandbyLaws
+pub mod SendingLemmas
 mod Texts
 mod Told
 mod TileLemmas
 mod PageLemmas
-mod TagLemmas
 mod LimitNumbers
 mod WholeSteps
 mod OneMethod

@@ -28,7 +28,7 @@ use Rattle.tile_service.specs.declared.fault.ServiceFault.{ServiceFault}
 use Rattle.tile_service.specs.declared.fault.ServiceFault.TheVariants.{Device}
 use Rattle.tile_service.specs.declared.publishing_whole.Published.{Published}
 use Rattle.tile_service.specs.declared.status.Status.{Status}
-use Rattle.begin_law.specs.Beside.{AreBeside}
+use Rattle.service_laws.specs.Beside.{AreBeside}
 use Rattle.map_replies.specs.declared.calls.Calls.{Calls}
 use Rattle.map_replies.specs.declared.service.MapReplies.{MapReplies}
 use Rattle.map_replies.specs.declared.preparing.PreparingReplies.{PreparingReplies}

@@ -11,8 +11,8 @@ use Rattle.tile_service.specs.Service.{ServiceView, IsUp}
 use Rattle.tile_service.specs.Stored.{Stored}
 use Rattle.tile_service.proofs.Runs.Callers.{HasRun, run_begins, run_on, begins_by, on_by}
 use Rattle.tile_service.proofs.Runs.DiskAfter.{below, last_is, one_more, by_next, by_next_before, by_next_last, by_next_part, run_fits}
-use Rattle.begin_law.specs.Moments.{WasRead, TakesBetweenReads}
-use Rattle.begin_law.proofs.OverReads.{run_reads, reads_by}
+use Rattle.service_laws.specs.Moments.{WasRead, TakesBetweenReads}
+use Rattle.service_laws.proofs.OverReads.{run_reads, reads_by}
 
 module _ {D : Type 0} (sectors : D → ℕ) (honest : D → Type 0) (history : D → History) where
   -- ---- reads

@@ -11,7 +11,6 @@ pub mod Parts
 pub mod Preparing
 pub mod Sending
 pub mod Served
-pub mod Standby
 pub mod State
 pub mod Tickets
 pub mod Waits

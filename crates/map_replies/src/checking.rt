@@ -1,12 +1,9 @@
 //! Edits that are made only if the map still has what their authors saw.
-ghost use Rattle.std.specs.Prelude.{◌≡◌, ◌≢◌, ◌≤◌, ℕ, List, [], map, vec_capacity, IfOk};
-ghost use Rattle.http_serve.specs.Reply.{ReplyView, reply_view, IsWhole};
+ghost use Rattle.std.specs.Prelude.{◌≡◌, ◌≤◌, [], map, vec_capacity, IfOk};
+ghost use Rattle.http_serve.specs.Reply.{reply_view, IsWhole};
 ghost use Rattle.feature_model.specs.Data.{change_data};
 ghost use Rattle.feature_model.specs.Seen.{seen_data};
-ghost use Rattle.tile_service.specs.Machine.{Happening};
-ghost use Rattle.tile_service.specs.Runs.{acknowledged, TakesAll};
-ghost use Rattle.tile_service.specs.Service.{ServiceView};
-ghost use Rattle.map_replies.specs.Meanings.{MeansChecked, MeansCheckedBatch, ReplacesSeen, Answers, DiskFailed};
+ghost use Rattle.map_replies.specs.Meanings.{MeansChecked, MeansCheckedBatch, Answers, DiskFailed};
 ghost use Rattle.map_replies.specs.Sending.{IsAnswered};
 ghost use Rattle.map_replies.specs.declared.replies.TheConstants.{MAX_TEXT};
 ghost use Rattle.map_replies.specs.Tickets.{KeepsTickets};
@@ -59,11 +56,3 @@ impl<D: Sectors + Drop> Calls<D> {
         Ok(self.make_checked(text, changes, &seen))
     }
 }
-
-/// A checked edit replaces no feature that its author hadn't seen: if one is acknowledged, the map had until then what the body says of
-/// each number that is changed.
-pub fn replaces_what_was_seen<D: Sectors>()
-    ensures { (version : ℕ) (body : List ℕ) (reply : ReplyView) (happenings : List Happening) (old new : ServiceView D)
-        → MeansCheckedBatch (DiskFailed D.faults old new) version body reply happenings
-        → TakesAll D.sectors D.honest D.history old happenings new → acknowledged happenings ≢ [] → ReplacesSeen old.features body }
-{}

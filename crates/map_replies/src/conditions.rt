@@ -29,7 +29,7 @@ pub(crate) enum Judged {
 
 /// What the conditions of a request want of the feature that it changes.
 #[derive(Clone, Copy, PartialEq, Eq)]
-pub(crate) enum Needed {
+pub enum Needed {
     /// Nothing.
     Free,
     /// That it is there.

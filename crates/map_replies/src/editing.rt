@@ -1,14 +1,10 @@
 //! Requests to edit features.
-ghost use Rattle.std.specs.Prelude.{◌≡◌, ◌≢◌, ℕ, List, [], true, IfOk};
+ghost use Rattle.std.specs.Prelude.{◌≡◌, true, IfOk};
 ghost use Rattle.feature_store.specs.Store.{feature_at};
-ghost use Rattle.http_serve.specs.Reply.{ReplyView, IsWhole};
-ghost use Rattle.tile_routes.specs.declared.method.Method.{Method};
-ghost use Rattle.tile_service.specs.Machine.{Happening};
-ghost use Rattle.tile_service.specs.Runs.{acknowledged, TakesAll};
-ghost use Rattle.tile_service.specs.Service.{ServiceView};
+ghost use Rattle.http_serve.specs.Reply.{IsWhole};
 ghost use Rattle.map_replies.specs.declared.conditions.Needed.{Needed};
 ghost use Rattle.map_replies.specs.Conditions.{meets};
-ghost use Rattle.map_replies.specs.Meanings.{MeansPut, MeansBatch, MeansDelete, MeansOnFeature, Answers, DiskFailed};
+ghost use Rattle.map_replies.specs.Meanings.{MeansPut, MeansBatch, MeansDelete, Answers, DiskFailed};
 ghost use Rattle.map_replies.specs.Sending.{IsAnswered};
 ghost use Rattle.map_replies.specs.Tickets.{KeepsTickets};
 
@@ -102,12 +98,3 @@ impl<D: Sectors + Drop> Calls<D> {
         Ok(replies::outcome(text, outcome))
     }
 }
-
-/// An edit under a condition is made only of a feature that is as the condition wants it: if one is acknowledged, that of this id was there
-/// until then, or wasn't, as the request says.
-pub fn edits_meet_their_conditions<D: Sectors>()
-    ensures { (version id : ℕ) (needed : Needed) (method : Method) (body : List ℕ) (reply : ReplyView) (happenings : List Happening)
-        (old new : ServiceView D) → MeansOnFeature (DiskFailed D.faults old new) version needed id method body reply happenings
-        → TakesAll D.sectors D.honest D.history old happenings new → acknowledged happenings ≢ []
-        → meets needed (feature_at old.features id) ≡ true }
-{}

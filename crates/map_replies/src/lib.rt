@@ -26,17 +26,11 @@ mod replies;
 mod service;
 mod showing;
 mod standbys;
-mod standing_by;
-mod tags;
 mod telling;
 mod turns;
 mod whole_publications;
 
-pub use checking::replaces_what_was_seen;
+pub use conditions::Needed;
 pub use confirming::ConfirmedReplies;
-pub use downloads::download_is_of_one_archive;
-pub use editing::edits_meet_their_conditions;
 pub use preparing::PreparingReplies;
 pub use service::{MapReplies, Settings, serve_map, serve_map_turns};
-pub use standing_by::{feed_tells_the_edits, standby_has_first_edits};
-pub use tags::{equal_tags_are_equal_tiles, equal_tags_are_equal_tiles_inside};

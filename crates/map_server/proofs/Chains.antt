@@ -13,7 +13,7 @@ use Rattle.map_replies.proofs.Along.{served_along, part_along}
 use Rattle.map_replies.proofs.Goes.{passes_goes}
 use Rattle.map_replies.proofs.Meanwhiles.{GoesMeanwhile, goes_from, replied, read_told, prepared_told}
 use Rattle.map_replies.proofs.Passing.{Passes, passes_none, takes_between}
-use Rattle.begin_law.specs.Moments.{TakesBetweenReads}
+use Rattle.service_laws.specs.Moments.{TakesBetweenReads}
 use Rattle.map_replies.specs.Preparing.{PreparingReplied, PreparingReads, PreparesFor, Meanwhile, meanwhile}
 use Rattle.map_replies.specs.Preparing.{inner_service, inner_ticket, without_draft}
 use Rattle.map_replies.specs.Preparing.{TellsMeanwhile, TellsMeanwhileRead, TellsPreparedFor}

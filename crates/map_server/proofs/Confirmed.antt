@@ -16,7 +16,7 @@ use Rattle.map_replies.specs.Confirming.{ConfirmedReplied, ConfirmedReads, Confi
 use Rattle.map_replies.specs.Preparing.{Meanwhile, meanwhile, inner_service, TellsMeanwhile, TellsMeanwhileRead, TellsPreparedFor}
 use Rattle.map_replies.specs.declared.confirming.ConfirmedReplies.{ConfirmedReplies}
 use Rattle.map_replies.specs.declared.preparing.PreparingReplies.{PreparingReplies}
-use Rattle.begin_law.specs.Moments.{TakesBetweenReads}
+use Rattle.service_laws.specs.Moments.{TakesBetweenReads}
 use Rattle.map_server.proofs.Followed.{events_along}
 use Rattle.sector_disk.specs.Disk.{History}
 use Rattle.tile_service.proofs.Runs.Callers.{takes_run}

@@ -5,7 +5,7 @@ ghost use Rattle.http_listen.specs.Conversations.{Deed};
 ghost use Rattle.http_listen.specs.Deeds.{AreEventsOf};
 ghost use Rattle.http_listen.specs.Goes.{AreOver};
 ghost use Rattle.http_listen.specs.Orders.{AreInOrder};
-ghost use Rattle.begin_law.specs.Moments.{TakesBetweenReads};
+ghost use Rattle.service_laws.specs.Moments.{TakesBetweenReads};
 ghost use Rattle.map_replies.specs.Confirming.{TellsConfirmed, TellsConfirmedRead, TellsConfirmedFor, confirming, confirmed_without_draft};
 ghost use Rattle.map_replies.specs.Preparing.{inner_service};
 ghost use Rattle.tile_service.specs.Machine.{Happening};

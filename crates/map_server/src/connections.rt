@@ -5,7 +5,7 @@ ghost use Rattle.http_listen.specs.Conversations.{Deed};
 ghost use Rattle.http_listen.specs.Deeds.{AreEventsOf};
 ghost use Rattle.http_listen.specs.Goes.{AreOver};
 ghost use Rattle.http_listen.specs.Orders.{AreInOrder};
-ghost use Rattle.begin_law.specs.Moments.{TakesBetweenReads};
+ghost use Rattle.service_laws.specs.Moments.{TakesBetweenReads};
 ghost use Rattle.map_replies.specs.Preparing.{TellsMeanwhile, TellsMeanwhileRead, TellsPreparedFor};
 ghost use Rattle.map_replies.specs.Preparing.{inner_service, meanwhile, without_draft};
 ghost use Rattle.tile_service.specs.Machine.{Happening};
@@ -41,8 +41,8 @@ where
     // that were acknowledged by then, on whatever connection, and none asked for later. Reads of downloads between them add nothing to it, nor
     // do the tiles of a publication that are made meanwhile. Its beginning stands in the run where its map was fixed, and the steps of a whole one
     // where they were made, between other replies too. What a crash leaves is told by the states that the calls left (`TakesBetweenReads`): of such
-    // states `begin_law::port_opens_to_its_first_edits` says that a disk that a crash leaves at any moment opens to the map after some first edits,
-    // all that were acknowledged by then, and `begin_law::port_keeps_what_it_listed` that what the feed of edits has listed is among them.
+    // states `service_laws::port_opens_to_its_first_edits` says that a disk that a crash leaves at any moment opens to the map after some first edits,
+    // all that were acknowledged by then, and `service_laws::port_keeps_what_it_listed` that what the feed of edits has listed is among them.
     // The bytes of each stretch are known.
     ensures all { OnOk result ((served : List Event) × (begun served ≡ connections) × AreOverKnown served × (run : List Happening)
         × (fixed : Option ℕ) × Serves (TellsMeanwhile D.sectors D.honest D.history D.faults)

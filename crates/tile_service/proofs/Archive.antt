@@ -1,6 +1,5 @@
 -- The published archive, as it is read.
 pub mod FirstBytes
 pub mod Read
-pub mod StillShown
 pub mod Tickets
 pub mod Unchanged

@@ -30,7 +30,6 @@ mod tickets;
 pub use drafting::Drafting;
 pub use event::{Answer, Event};
 pub use fault::ServiceFault;
-pub use listing::{broken_still_shows_its_edits, listed_edits_are_kept};
 pub use publishing_whole::Published;
 pub use service::Service;
 pub use status::Status;

@@ -13,7 +13,7 @@ use Rattle.tile_service.specs.declared.status.Status.{Status}
 use Rattle.map_replies.specs.Conditions.{AskView, needed, refuses}
 use Rattle.map_replies.specs.Confirming.{asks_to_edit}
 use Rattle.map_replies.specs.Meanings.{MeansMethod, MeansNumberedBatch, MeansNumberedPut, UnlessRefused}
-use Rattle.map_replies.specs.Standby.{SaysEditOf}
+use Rattle.two_machines.specs.Standby.{SaysEditOf}
 use Rattle.map_replies.proofs.NumberedPuts.{put_asks}
 use Rattle.map_replies.proofs.Quiet.{means_quiet}
 use Rattle.two_machines.specs.Couriers.{SaysPutOf}

@@ -9,7 +9,7 @@ use Rattle.tile_service.specs.Machine.{Happening}
 use Rattle.tile_service.specs.declared.status.Status.{Status}
 use Rattle.map_replies.specs.Bodies.{IsJson, SaysChanges}
 use Rattle.map_replies.specs.Meanings.{MeansNumbered, MeansNumberedBatch}
-use Rattle.map_replies.specs.Standby.{IsEditOf, SaysEditOf}
+use Rattle.two_machines.specs.Standby.{IsEditOf, SaysEditOf}
 use Rattle.two_machines.specs.Machines.{AreGiven}
 
 pub says : (first : ℕ) (edits : List EditData) (number : ℕ) (cs : EditData) (body : List ℕ) (taken : Data) → IsJson body taken → IsBatch taken cs

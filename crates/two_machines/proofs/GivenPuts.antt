@@ -8,7 +8,7 @@ use Rattle.tile_service.specs.Machine.{Happening, edit, single, recorded_change}
 use Rattle.tile_service.specs.Runs.{acknowledged}
 use Rattle.tile_service.specs.declared.status.Status.{Status}
 use Rattle.map_replies.specs.Bodies.{SaysFeature}
-use Rattle.map_replies.specs.Standby.{IsEditOf}
+use Rattle.two_machines.specs.Standby.{IsEditOf}
 use Rattle.map_replies.proofs.NumberedPuts.{IsPut}
 use Rattle.map_replies.proofs.Quiet.{AreQuiet}
 use Rattle.two_machines.specs.Couriers.{SaysPutOf}

@@ -7,3 +7,4 @@ mod Given
 mod GivenPuts
 mod Asks
 mod Ports
+mod StandbyLaws

@@ -10,7 +10,7 @@ use Rattle.tile_service.specs.After.{made, after as after_recorded}
 use Rattle.tile_service.specs.Machine.{Happening, edit}
 use Rattle.tile_service.specs.Runs.{edits_by, acknowledged, happening_at}
 use Rattle.map_replies.specs.Feed.{changes_of}
-use Rattle.map_replies.specs.Standby.{HasFirstEdits, IsEditOf}
+use Rattle.two_machines.specs.Standby.{HasFirstEdits, IsEditOf}
 use Rattle.two_machines.specs.Machines.{IsGiven, AreGiven}
 
 -- two ways to part a list after as many elements are one

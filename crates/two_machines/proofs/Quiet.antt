@@ -9,7 +9,7 @@ use Rattle.tile_service.specs.Service.{ServiceView, state_of, known_after}
 use Rattle.tile_service.specs.Stored.{Stored}
 use Rattle.tile_service.proofs.Runs.OneEvent.{no_known, broken_stays}
 use Rattle.tile_service.proofs.Runs.Progress.{all_edits_on}
-use Rattle.begin_law.specs.Moments.{TakesBetweenReads}
+use Rattle.service_laws.specs.Moments.{TakesBetweenReads}
 
 doubtful_edits : (h : Happening) → IsDoubtful h → edits_by h ≡ []
 doubtful_edits (edit call e (Ok number)) doubt = absurd doubt

@@ -14,8 +14,8 @@ use Rattle.tile_service.specs.Runs.{acknowledged, happening_at, all_edits, way_o
 use Rattle.tile_service.specs.Service.{ServiceView}
 use Rattle.tile_service.specs.Stored.{Stored, map_of, last_of}
 use Rattle.tile_service.proofs.Runs.Progress.{all_split_at}
-use Rattle.begin_law.specs.Moments.{WasStoppedBetweenReads}
-use Rattle.map_replies.specs.Standby.{HasFirstEdits, IsEditOf}
+use Rattle.service_laws.specs.Moments.{WasStoppedBetweenReads}
+use Rattle.two_machines.specs.Standby.{HasFirstEdits, IsEditOf}
 use Rattle.map_replies.specs.Feed.{changes_of}
 use Rattle.two_machines.specs.Machines.{AreGiven, leader_edits, HoldsFirst, HoldOneMap}
 use Rattle.two_machines.proofs.Lists.{AreNext, next_first, some_next, one_more_next, given_next, given_at, after_changes}

@@ -11,7 +11,7 @@ use Rattle.map_replies.specs.Bodies.{SaysFeature}
 use Rattle.map_replies.specs.Confirming.{asks_to_edit}
 use Rattle.map_replies.specs.Meanings.{asked_for}
 use Rattle.map_replies.specs.Preparing.{Meanwhile, TellsMeanwhile}
-use Rattle.map_replies.specs.Standby.{IsEditOf, SaysEditOf}
+use Rattle.two_machines.specs.Standby.{IsEditOf, SaysEditOf}
 use Rattle.map_replies.specs.State.{access_of}
 
 -- the body is the feature that the leader's edit of this number sets under this id, and the edit changes nothing else

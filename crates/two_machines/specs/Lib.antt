@@ -1,2 +1,3 @@
 pub mod Couriers
 pub mod Machines
+pub mod Standby

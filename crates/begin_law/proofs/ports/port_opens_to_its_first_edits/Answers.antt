@@ -1,5 +1,0 @@
-use Rattle.begin_law.proofs.PortKept.{first_edits}
-use Rattle.begin_law.proofs.ports.port_opens_to_its_first_edits.Goals as goal
-
-pub returns : goal.returns
-returns g c = let d = g.D.Sectors in first_edits d.sectors d.honest d.history

@@ -1,4 +1,0 @@
-pub mod Begun
-pub mod Beside
-pub mod Inside
-pub mod Moments

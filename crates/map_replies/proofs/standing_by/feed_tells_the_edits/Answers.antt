@@ -1,7 +1,0 @@
-use Rattle.map_replies.proofs.StandbyLaws.{told_are_edits}
-use Rattle.map_replies.proofs.standing_by.feed_tells_the_edits.Goals as goal
-
-pub returns : goal.returns
-returns g c =
-    let d = g.D.Sectors in
-    told_are_edits d.sectors d.honest d.history

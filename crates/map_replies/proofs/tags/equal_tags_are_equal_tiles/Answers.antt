@@ -1,5 +1,0 @@
-use Rattle.map_replies.proofs.TagLemmas.{equal_tags}
-use Rattle.map_replies.proofs.tags.equal_tags_are_equal_tiles.Goals as goal
-
-pub returns : goal.returns
-returns g c = equal_tags g.D.Sectors.sectors g.D.Sectors.honest g.D.Sectors.history g.D.Sectors.faults

@@ -1,0 +1,4 @@
+mod MetConditions
+mod OneArchive
+mod SeenEdits
+mod TagLemmas

@@ -1,0 +1,5 @@
+pub mod Begun
+pub mod Beside
+pub mod Inside
+pub mod Moments
+pub mod CopyHeld
