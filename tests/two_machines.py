@@ -10,9 +10,9 @@ The machines are two network namespaces with a link between them (tests/link.py)
 is that of one way in milliseconds, `--loss` the percentage of packets that the link loses; several of each are tried
 by turns. The standby, and the `vtmap follow` that serves it, are on the second machine, editors beside the first.
 
-`kills`: in each round the first server is killed (`kill -9`) under the editors and its disk is removed; each edit that
-was acknowledged has to be at the standby, under its number and with its feature, and edits have to go on there. It
-ends with 1 if one is missing. `stopped`: the standby is stopped (SIGSTOP) for a while, and it is told when the first edit
+`kills`: in each round the first server is killed (`kill -9`) under the editors, as many seconds after the first edit as
+`--after` says (from, to), and its disk is removed; each edit that was acknowledged has to be at the standby, under its
+number and with its feature, and edits have to go on there. It ends with 1 if one is missing. `stopped`: the standby is stopped (SIGSTOP) for a while, and it is told when the first edit
 is refused, and how soon after its end edits are acknowledged again.
 
 `--folder` has the disks: a folder in memory (/dev/shm) shows what the network costs, where a sync takes no time.
@@ -43,6 +43,8 @@ VTMAP = [sys.executable, os.path.join(TOP, "bin", "vtmap")]
 PORT, FRONT = 8080, 8000
 # The seconds that anything may take to come up, and an editor waits after a refusal.
 LONGEST, PAUSE = 30, 0.02
+# After how many kills it is told how many there were.
+SO_FAR = 20
 LIMIT = 4294967295
 # A journal that some ten thousand edits a second don't fill.
 SECTORS = {"speed": 2000000, "kills": 200000, "stopped": 400000}
@@ -126,6 +128,10 @@ def edit(words: list[str]) -> None:
     editors = [Editor(host, number, time.monotonic() + seconds) for number in range(1, count + 1)]
     for editor in editors:
         editor.start()
+    while not any(editor.made for editor in editors) and any(editor.is_alive() for editor in editors):
+        time.sleep(PAUSE)
+    # Who waits for the first edit reads this line.
+    print(flush=True)
     for editor in editors:
         editor.join()
     json.dump({
@@ -230,6 +236,12 @@ def take() -> None:
     json.dump([found, json.loads(content).get("edit")], sys.stdout)
 
 
+def begun(child: subprocess.Popen) -> None:
+    """Waits until an edit of editors is acknowledged, or none will be."""
+    if child.stdout:
+        child.stdout.readline()
+
+
 def told(child: subprocess.Popen) -> dict[str, Any]:
     """What editors say once they are done."""
     found = json.loads(child.communicate()[0])
@@ -276,18 +288,23 @@ def kills(words: argparse.Namespace, delay: float, loss: float) -> int:
     while rounds < words.rounds and time.monotonic() < end:
         with machines(words, delay, loss) as pair:
             editors = pair.editing(max(words.editors), LONGEST)
-            time.sleep(0.5 + random.random() * 1.5)
+            begun(editors)
+            time.sleep(random.uniform(*words.after))
             pair.leader.kill()
             os.remove(pair.disk)
             made = told(editors)["made"]
             ended(pair.follower)
             there, following = pair.taken_over()
             missing = [each for each in made if there.get(each.edit) != (each.feature, each.count)]
+        if not made:
+            raise SystemExit("no edit was acknowledged before the kill")
         if following != len(there) + 1:
             raise SystemExit(f"edits don't go on at the standby: {following} after {len(there)}")
         rounds, acknowledged, lost = rounds + 1, acknowledged + len(made), lost + len(missing)
         if missing:
             print(f"round {rounds}: {len(missing)} of {len(made)} missing, {len(there)} there: {missing[:3]}", flush=True)
+        if rounds % SO_FAR == 0:
+            print(f"        so far {rounds} kills, {acknowledged} acknowledged edits, {lost} lost", flush=True)
     print(
         f"{delay:g} ms one way, {loss:g} % lost, {max(words.editors)} editors: {rounds} kills, {acknowledged} acknowledged edits, {lost} lost",
         flush=True,
@@ -331,6 +348,7 @@ def main() -> int:
     parser.add_argument("--editors", type=int, nargs="+", default=[1, 30])
     parser.add_argument("--seconds", type=float, default=10)
     parser.add_argument("--rounds", type=int, default=1)
+    parser.add_argument("--after", type=float, nargs=2, default=[0.2, 1.5])
     parser.add_argument("--minutes", type=float, default=15)
     parser.add_argument("--folder")
     parser.add_argument("--without", action="store_true")
