@@ -1,5 +1,7 @@
 """The part `tags` of run.py: entity tags, and conditions on them, of a server with --etags."""
+import http.client
 import os
+import random
 import re
 import shutil
 import subprocess
@@ -17,9 +19,16 @@ CHANGES = [
     ("/admin/edits", "POST"),
 ]
 
+# A wide map: a box of so many tiles of this zoom in a row, 200 km at the equator; of them so many have a point, and
+# so many edits are made anywhere. A cell in which edits are noted is half a tile wide.
+ZOOM, ROW, TILES, EDITS = 14, 82, 100, 300
+SIDE = 2 ** (32 - ZOOM)
+CELLS = 3
+
 
 def tags(cases: Cases, folder: str) -> None:
     """Entity tags and conditions, with --etags."""
+    wide_map(cases, folder)
     with Server(folder, "tags", more=["--admin", "--etags"]) as server:
         url = server.url
         reply = curl(url + "/features/7", "-X", "PUT", "-H", "If-Match: *", body=feature())
@@ -71,6 +80,55 @@ def tags(cases: Cases, folder: str) -> None:
             re.fullmatch(r'W/"[1-9][0-9]*-3"', tag) is not None or tag,
             True,
         )
+
+
+def wide_map(cases: Cases, folder: str) -> None:
+    """The tags of tiles of a map that is wider than 39 km change by edits in the tile or near it, and by no other."""
+    chance = random.Random(1)
+    with Server(folder, "wide", more=["--admin", "--etags"]) as server:
+        connection = http.client.HTTPConnection("127.0.0.1", server.port)
+
+        def put(number, place):
+            body = feature("p", ZOOM, ZOOM, {"points": [[2**31 + one for one in place]]})
+            connection.request("PUT", f"/features/{number}", body)
+            reply = connection.getresponse()
+            reply.read()
+            return reply.status
+
+        def tag(tile):
+            x, y = (2 ** (ZOOM - 1) + one for one in tile)
+            connection.request("GET", f"/map/{ZOOM}/{x}/{y}.mvt")
+            reply = connection.getresponse()
+            reply.read()
+            return reply.status, reply.headers["etag"]
+
+        tiles = [divmod(at, ROW) for at in chance.sample(range(ROW * ROW), TILES)]
+        made = {put(at, [one * SIDE + SIDE // 2 for one in tile]) for at, tile in enumerate(tiles)}
+        before = [tag(tile) for tile in tiles]
+        edits = [[chance.randrange(ROW * SIDE) for _ in range(2)] for _ in range(EDITS)]
+        made |= {put(TILES + at, place) for at, place in enumerate(edits)}
+        after = [tag(tile) for tile in tiles]
+        connection.close()
+    # How far each tile is from the nearest edit, in cells: 0 for one that has an edit in it.
+    far = [
+        min(max(max(one * SIDE - at, at - (one + 1) * SIDE, 0) for one, at in zip(tile, edit)) for edit in edits)
+        / (SIDE // 2)
+        for tile in tiles
+    ]
+    changed = [one != other for one, other in zip(before, after)]
+    cases.show("a wide map: its edits and tiles", (made, {status for status, _ in before + after}), ({200}, {200}))
+    cases.show(
+        "a wide map: a tile has another tag after an edit in it",
+        [(distance, is_other) for distance, is_other in zip(far, changed) if distance == 0 and not is_other],
+        [],
+    )
+    cases.show(
+        "a wide map: a tile that no edit is near has its tag",
+        [(distance, is_other) for distance, is_other in zip(far, changed) if distance > CELLS and is_other],
+        [],
+    )
+    within = sum(distance == 0 for distance in far)
+    cases.say(f"a wide map: {sum(changed)} of {TILES} tags changed, {within} of them of tiles with an edit")
 
 
 def archive_under_conditions(cases, url, whole, tag):
