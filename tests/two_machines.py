@@ -43,6 +43,8 @@ VTMAP = [sys.executable, os.path.join(TOP, "bin", "vtmap")]
 PORT, FRONT = 8080, 8000
 # The seconds that anything may take to come up, and an editor waits after a refusal.
 LONGEST, PAUSE = 30, 0.02
+# The seconds that a process may take to end.
+GRACE = 5
 # After how many kills it is told how many there were.
 SO_FAR = 20
 LIMIT = 4294967295
@@ -250,9 +252,13 @@ def told(child: subprocess.Popen) -> dict[str, Any]:
 
 
 def ended(child: subprocess.Popen) -> None:
-    """Ends a process, if it hasn't."""
-    child.kill()
-    child.wait()
+    """Ends a process, if it hasn't. One that is killed at once leaves its children, as nginx does its workers."""
+    child.terminate()
+    try:
+        child.wait(GRACE)
+    except subprocess.TimeoutExpired:
+        child.kill()
+        child.wait()
 
 
 @contextlib.contextmanager
@@ -293,7 +299,7 @@ def kills(words: argparse.Namespace, delay: float, loss: float) -> int:
             pair.leader.kill()
             os.remove(pair.disk)
             made = told(editors)["made"]
-            ended(pair.follower)
+            pair.follower.kill()
             there, following = pair.taken_over()
             missing = [each for each in made if there.get(each.edit) != (each.feature, each.count)]
         if not made:
