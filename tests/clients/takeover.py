@@ -284,7 +284,7 @@ def by_a_command(cases: Cases, folder: str) -> None:
         cases.show("takeover: is done", (told[0], told[1][2].split(".")[0]), (0, "taken over: edits go on with 4"))
         called = [call for call in here.calls() if not call.startswith("cat ")]
         cases.show("takeover: what it runs", [call for call in called if call in STARTED], STARTED)
-        edit = waited(lambda: curl(front.url + "/features/9", "-X", "PUT", body=feature())[2] == b'{"edit":2}')
+        edit = waited(lambda: curl(front.url + "/features/9", "-X", "PUT", body=feature())[2] == b'{"edit":4}')
         with open(here.path("etc/vtserve/nginx-maps/closed.conf"), encoding="utf-8") as file:
             cases.show(
                 "takeover: people edit here, and the line of another map stays",
