@@ -54,7 +54,18 @@ class Answers(threading.Thread):
                 connection.sendall(b"".join(told))
                 told = []
             if more:
+                self.linger(connection)
                 return
+
+    def linger(self, connection):
+        """Ends a connection as a proxy does: what has come and isn't answered must not have the reply dropped."""
+        connection.shutdown(socket.SHUT_WR)
+        connection.settimeout(5)
+        try:
+            while connection.recv(65536):
+                pass
+        except OSError:
+            pass
 
     def paths(self):
         return [path.rpartition("/")[2] for path, _ in self.seen]
