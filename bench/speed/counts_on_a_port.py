@@ -1,5 +1,5 @@
 #!/usr/bin/env python3
-"""User instructions of one request for a hot tile over a kept connection of `serve`, by callgrind: the difference of two runs.
+"""User instructions of one request over a kept connection of `serve`, for a hot tile and for an edit, by callgrind: the difference of two runs.
 
     python3 bench/speed/counts_on_a_port.py PROGRAM FOLDER [PORT]
 
@@ -9,6 +9,7 @@ PROGRAM is crates/vtserve/out/vtserve or what tools/unproved.py makes. It needs 
 import json
 import os
 import re
+import shutil
 import socket
 import subprocess
 import sys
@@ -38,10 +39,12 @@ def made_disk(count):
 def counted(disk, ask, times, name):
     global PORT
     PORT += 1
-    out = os.path.join(FOLDER, name)
-    command = ["valgrind", "--tool=callgrind", f"--callgrind-out-file={out}", PROGRAM, "serve", "--port", str(PORT), "--connections", "1", disk]
+    out, used = os.path.join(FOLDER, name), os.path.join(FOLDER, "used")
+    # Each run begins with the same disk, whatever the one before has edited.
+    shutil.copyfile(disk, used)
+    command = ["valgrind", "--tool=callgrind", f"--callgrind-out-file={out}", PROGRAM, "serve", "--port", str(PORT), "--connections", "1", used]
     server = subprocess.Popen(command, stdout=subprocess.PIPE, stderr=subprocess.PIPE)
-    for _ in range(200):
+    for _ in range(2400):
         try:
             peer = socket.create_connection(("127.0.0.1", PORT))
             break
@@ -61,10 +64,19 @@ def counted(disk, ask, times, name):
     return int(re.search(rb"Collected : (\d+)", said)[1])
 
 
+def get(fields):
+    return f"GET /map/8/0/0.mvt HTTP/1.1\r\n{fields}\r\n".encode()
+
+
 small, large = made_disk(14), made_disk(420)
-SHORT = "host: x\r\n"
-ROWS = [("0.8 KB, short head", small, SHORT), ("0.8 KB, a browser's head", small, browser_fields(8080)), ("24 KB", large, SHORT)]
-for name, disk, fields in ROWS:
-    ask = f"GET /map/8/0/0.mvt HTTP/1.1\r\n{fields}\r\n".encode()
-    few, many = counted(disk, ask, 300, f"few_{disk[-3:]}_{len(ask)}"), counted(disk, ask, 1300, f"many_{disk[-3:]}_{len(ask)}")
-    print(f"a hot tile of {name} ({len(ask)} bytes): {(many - few) / 1000:.0f} instructions for each request", flush=True)
+SHORT, BODY = "host: x\r\n", json.dumps(point(7), separators=(",", ":"))
+PUT = f"PUT /features/7 HTTP/1.1\r\n{SHORT}content-length: {len(BODY)}\r\n\r\n{BODY}".encode()
+ROWS = [
+    ("a hot tile of 0.8 KB, short head", small, get(SHORT)),
+    ("a hot tile of 0.8 KB, a browser's head", small, get(browser_fields(8080))),
+    ("a hot tile of 24 KB", large, get(SHORT)),
+    ("an edit of one sector", small, PUT),
+]
+for at, (name, disk, ask) in enumerate(ROWS):
+    few, many = counted(disk, ask, 300, f"few_{at}"), counted(disk, ask, 1300, f"many_{at}")
+    print(f"{name} ({len(ask)} bytes): {(many - few) / 1000:.0f} instructions for each request", flush=True)
