@@ -273,11 +273,18 @@ class Stand:
     def nothing_is_written(self):
         """Of a publication that is prepared, and of one that has begun, no byte is on the disk, also after its asker
         is gone and the process killed."""
-        self.change()
         with open(self.server.disk, "rb") as disk:
-            before = disk.read()
-            stream = self.asked([BEGIN])[0]
-            drafting = status_of(self.server)["drafting"]
+            for _ in range(100):
+                self.change()
+                disk.seek(0)
+                before = disk.read()
+                stream = self.asked([BEGIN])[0]
+                drafting = status_of(self.server)["drafting"]
+                if drafting is not None:
+                    break
+                # On a busy machine it had begun before that was asked.
+                stream.close()
+                curl(self.server.url + "/publish/cancel", "-X", "POST")
             disk.seek(0)
             self.cases.show(
                 "while a publication is prepared, the disk is as it was",
