@@ -1,8 +1,9 @@
 -- What waits to be sent is sent piece by piece.
 use Rattle.std.proofs.Common.{◌≡◌, ◌<◌, ◌≤◌, ℕ, List, [], ◌++◌, refl, sym, ap, ◌∙◌, subst, take, drop, length, length-append, length-drop}
 use Rattle.std.proofs.Common.{append_assoc, arith, Option, ◌-◌}
-use Rattle.std.proofs.lemmas.List.{append-nil, drop-drop, drop_at, take-append-drop, take-append-le, take_at}
+use Rattle.std.proofs.lemmas.List.{append-nil, drop-drop, drop_at, take-append-drop, take-append-le, take_all, take_at}
 use Rattle.std.specs.Io.KnownBytes.{Appends}
+use Rattle.http_serve.specs.Connections.{IsNextPiece}
 
 -- bytes of a piece were taken
 pub taken_on : (all sent output piece behind new : List ℕ) (count : ℕ) → all ≡ sent ++ output → output ≡ piece ++ behind → count ≤ length piece
@@ -38,3 +39,15 @@ pub drop_behind : (n : ℕ) (xs ys : List ℕ) → length xs ≤ n → drop n (x
 drop_behind n xs ys over =
     ap (λ (m : ℕ). drop m (xs ++ ys)) (omega (arith, over)) ∙ sym (drop-drop (n - length xs) (length xs) (xs ++ ys))
     ∙ ap (drop (n - length xs)) (drop_at xs ys (length xs) refl)
+
+-- a slice of the second list from there on
+pub second_left : (taken len : ℕ) (front body lent : List ℕ) → len ≡ length front → len ≤ taken → lent ≡ body
+    → take (length lent - (taken - len)) (drop (taken - len) lent) ≡ drop taken (front ++ body)
+second_left taken len front body lent len_is over is =
+    take_all (length lent - (taken - len)) (drop (taken - len) lent) (omega (arith, length-drop (taken - len) lent))
+    ∙ ap (drop (taken - len)) is ∙ ap (λ (n : ℕ). drop (taken - n) body) len_is
+    ∙ sym (drop_behind taken front body (omega (arith, len_is, over)))
+
+-- all of what waits is a piece
+pub all_waits : (piece waiting : List ℕ) → piece ≡ waiting → IsNextPiece piece waiting
+all_waits piece waiting is = record { behind = []; is = sym is ∙ sym (append-nil piece); some = λ none. sym is ∙ none }

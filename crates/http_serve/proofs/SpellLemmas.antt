@@ -1,9 +1,11 @@
 -- Hex text part by part.
 use Rattle.std.proofs.Common.{◌≡◌, ℕ, zero, suc, ◌+◌, ◌*◌, ◌-◌, ◌/◌, ◌%◌, ◌<◌, ◌≤◌, List, [], ◌∷◌, ◌++◌, drop, take, length, slice_index, refl, sym, ap, ◌∙◌, arith}
 use Rattle.std.proofs.Common.{append_assoc, length-append, length-drop}
-use Rattle.std.proofs.lemmas.List.{drop-drop, drop_all, length-take-le, take-append-drop}
+use Rattle.std.proofs.lemmas.List.{append-nil, drop-append-le, drop-drop, drop_all, length-take-le, take-append-drop}
+use Rattle.std.specs.Rc.{rc_slice_items}
 use Rattle.hex.specs.Hex.{encode_lower, encode_with, lower_digits}
 use Rattle.hex.proofs.HexLemmas.{length-encode_with}
+use Rattle.http_serve.specs.Connections.{IsNextPiece}
 use Rattle.http_serve.specs.Parts.{front_content, lying_content, IsAhead}
 use Rattle.http_serve.specs.declared.replies.Content.{Content}
 use Rattle.http_serve.specs.declared.replies.Content.TheVariants.{Empty, Fixed, Whole, Shared, Spelled, Parts}
@@ -76,3 +78,27 @@ lies taken len capacity (Shared bytes) ahead under = refl
 lies taken len capacity (Spelled []) ahead under = refl
 lies taken len capacity (Spelled (b ∷ bytes)) ahead under = absurd (omega (arith, (ahead (omega arith)).0, under))
 lies taken len capacity (Parts first size) ahead under = refl
+
+-- What lies in memory of a content comes first.
+lies_first : (content : Content) → (behind : List ℕ) × (front_content content ≡ lying_content content ++ behind)
+lies_first Empty = ([], refl)
+lies_first (Fixed text) = ([], sym (append-nil text.now))
+lies_first (Whole bytes) = ([], sym (append-nil bytes.items))
+lies_first (Shared bytes) = ([], sym (append-nil (rc_slice_items bytes)))
+lies_first (Spelled bytes) = (encode_lower bytes, refl)
+lies_first (Parts first size) = ([], sym (append-nil first.items))
+
+-- What is left of the front, and what lies in memory behind it, comes next.
+pub next_bytes : (taken : ℕ) (front first lent waiting : List ℕ) (content : Content) → taken < length front → first ≡ drop taken front
+    → lent ≡ lying_content content → drop taken (front ++ front_content content) ≡ waiting → IsNextPiece (first ++ lent) waiting
+next_bytes taken front first lent waiting content under first_is lent_is is =
+    let left = drop taken front in
+    let lying = lying_content content in
+    let behind = lies_first content in
+    record {
+      behind = behind.0;
+      is = sym is ∙ drop-append-le taken front (front_content content) (omega (arith, under)) ∙ ap (λ (l : List ℕ). left ++ l) behind.1
+          ∙ sym (append_assoc left lying behind.0) ∙ ap (λ (l : List ℕ). (l ++ lying) ++ behind.0) (sym first_is)
+          ∙ ap (λ (l : List ℕ). (first ++ l) ++ behind.0) (sym lent_is);
+      some = λ none. absurd (omega (arith, ap length none, length-append first lent, ap length first_is, length-drop taken front, under));
+    }

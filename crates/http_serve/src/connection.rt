@@ -332,6 +332,13 @@ impl Connection {
         self.output.piece()
     }
 
+    /// The next bytes to send, in two pieces of which the first comes first: none only if none wait. The second is of a content that is lent.
+    pub fn pieces(&self) -> (&[u8], &[u8])
+        ensures { IsNextPiece (result.0.now ++ result.1.now) self.now.output }
+    {
+        self.output.pieces()
+    }
+
     /// `count` of the bytes that wait to be sent were taken.
     pub fn took(&mut self, count: usize)
         requires { count ≤ length self.old.output }

@@ -76,13 +76,13 @@ fn unjoined(content: Content) -> Content
     }
 }
 
-/// Copies a content behind the front, if both fit into `REPLY_SPACE` and there is memory for it. What it returns follows the front.
+/// Copies a content behind the front, if there is room for it. What it returns follows the front.
 fn join(front: &mut Vec<u8>, content: Content) -> Content
     ensures bytes { front.new.items ++ front_content result ≡ front.old.items ++ front_content content }
     ensures longer { vec_len front.old ≤ vec_len front.new }
     ensures capacity { vec_capacity front.old ≤ vec_capacity front.new }
 {
-    if content.front().len() > REPLY_SPACE.saturating_sub(front.len()) {
+    if content.front().len() > front.capacity().saturating_sub(front.len()) {
         return content;
     }
     match front.extend_from_slice(content.front()) {
@@ -290,6 +290,16 @@ impl Output {
             return &self.front[self.taken..];
         }
         &self.lent.front()[self.taken - self.front.len()..]
+    }
+
+    /// The next bytes to send: what is left of the front, and what lies in memory behind it. Of a content that is spelled others may follow.
+    pub(crate) fn pieces(&self) -> (&[u8], &[u8])
+        ensures { IsNextPiece (result.0.now ++ result.1.now) self.now.waiting }
+    {
+        if self.taken < self.front.len() {
+            return (&self.front[self.taken..], self.lent.front());
+        }
+        (&self.lent.front()[self.taken - self.front.len()..], b"")
     }
 
     /// So many of the bytes that wait were taken.

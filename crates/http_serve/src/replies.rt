@@ -361,5 +361,6 @@ pub(crate) fn put_reply_head(out: &mut Vec<u8>, reply: &Reply, close: bool)
     push_text(out, b"\r\n");
 }
 
-/// How many bytes of a reply are gathered for one write: a call of the system and a packet more cost more than a copy of these.
+/// The room for a reply of a connection whose buffers are reserved, in bytes: a content that fits there is copied behind its head, and one write has
+/// both. Of a content that is spelled as much waits at a time.
 pub(crate) const REPLY_SPACE: usize = 65_536;
