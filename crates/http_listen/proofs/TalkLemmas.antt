@@ -1,7 +1,8 @@
 -- What follows from what a stream told.
 use Rattle.std.proofs.Common.{◌≡◌, ℕ, List, [], ◌++◌, None, Some, refl, sym, ap, ◌∙◌, append_assoc, append-nil, length, take, drop, take-append-drop, subst}
 use Rattle.std.proofs.Common.{length-append, le_trans, ◌+◌, arith}
-use Rattle.std.proofs.lemmas.List.{take-append-le}
+use Rattle.std.proofs.Common.{zero, suc, ◌∷◌, ◌-◌, min}
+use Rattle.std.proofs.lemmas.List.{take-append-le, take_min}
 use Rattle.std.specs.Prelude.{◌≤◌, ⊤}
 use Rattle.std.specs.declared.option.Option.{Option}
 use Rattle.http_listen.specs.Talks.{Told, Grows, HasEnded, IsAt, KeepsEnd, Moves, EndsWithin, given_by}
@@ -80,6 +81,26 @@ moves_front a b piece behind w size n is few grows =
     let whole : piece ++ behind ≡ take size piece ++ (drop size piece ++ behind) =
     ap (λ l. l ++ behind) (sym (take-append-drop size piece)) ∙ append_assoc (take size piece) (drop size piece) behind in
     moves_piece a b (take size piece) (drop size piece ++ behind) w n (is ∙ whole) few grows
+
+-- ---- two pieces
+
+-- The first bytes of two lists are those of the first one, and of the second one as many as are left.
+take_both : (n : ℕ) (xs ys : List ℕ) → take n xs ++ take (n - length xs) ys ≡ take n (xs ++ ys)
+take_both zero xs ys = let none : zero - length xs ≡ zero = omega arith in ap (λ (k : ℕ). take k ys) none
+take_both (suc n) [] ys = let all : suc n - 0 ≡ suc n = omega arith in ap (λ (k : ℕ). take k ys) all
+take_both (suc n) (x ∷ xs) ys =
+    let left : suc n - length (x ∷ xs) ≡ n - length xs = omega arith in
+    ap (λ (k : ℕ). (x ∷ take n xs) ++ take k ys) left ∙ ap (λ (l : List ℕ). x ∷ l) (take_both n xs ys)
+
+-- the same, with how many these are
+pub first_of_both : (front behind : List ℕ) (most count more : ℕ) → count ≡ min (length front) most → more ≡ min (length behind) (most - count)
+    → take count front ++ take more behind ≡ take most (front ++ behind)
+first_of_both front behind most count more count_is more_is =
+    let first : count ≡ min most (length front) = omega (arith, count_is) in
+    let left : more ≡ min (most - length front) (length behind) = omega (arith, count_is, more_is) in
+    ap (λ (l : List ℕ). l ++ take more behind) (ap (λ (k : ℕ). take k front) first ∙ take_min most front)
+    ∙ ap (λ (l : List ℕ). take most front ++ l) (ap (λ (k : ℕ). take k behind) left ∙ take_min (most - length front) behind)
+    ∙ take_both most front behind
 
 -- ---- the end of a stream
 

@@ -21,6 +21,7 @@ mod talks;
 mod turns;
 mod waiting;
 mod waits;
+mod writes;
 
 pub use connections::{ListenFault, serve_on};
 pub use ends::EndFault;

@@ -29,6 +29,7 @@ use crate::readiness::{Readiness, is_passing};
 use crate::rests::{Unsent, once_sent};
 use crate::talks::Talks;
 use crate::turns::Next;
+use crate::writes::{first_bytes, send_again};
 use http_requests::{FieldSpans, MAX_REQUEST};
 use http_serve::{Answer, Connection, End, Hold, Moment, Served};
 use std::alloc::{AllocError, Global};
@@ -412,18 +413,6 @@ fn counted(requests: u64, outcome: Ending) -> u64
     }
 }
 
-/// Makes one write, and another one if a signal interrupts it.
-fn send_again<S: Talks>(stream: &mut S, bytes: &[u8]) -> io::Result<usize>
-    ensures bound { WritesAtMost result bytes.now }
-    ensures told { MatchResult result (λ n. Grows (S.told stream.old) [] (take n bytes.now) (S.told stream.new))
-        (λ _. Grows (S.told stream.old) [] [] (S.told stream.new)) }
-{
-    match stream.send(bytes) {
-        Err(e) if e.kind() == ErrorKind::Interrupted => stream.send(bytes),
-        outcome => outcome,
-    }
-}
-
 impl<S: Talks> Peer<S> {
     /// Sends the reply for want of memory, unless another reply is being sent. Whether it was.
     fn refuse_memory(&mut self) -> bool
@@ -434,7 +423,7 @@ impl<S: Talks> Peer<S> {
             return false;
         }
         let reply = memory_reply();
-        match send_again(&mut self.stream, reply) {
+        match send_again(&mut self.stream, reply, b"") {
             Ok(count) => count == reply.len(),
             Err(_) => false,
         }
@@ -619,9 +608,10 @@ impl<S: Talks> Peer<S> {
         ensures fault { IfErr result (λ fault. fault ≡ Write 0) }
         ensures left { IfOk result (λ left. length self.old.connection.output + left ≤ length self.new.connection.output + most) }
     {
-        let piece = self.connection.piece();
-        let size = piece.len().min(most);
-        match send_again(&mut self.stream, &piece[..size]) {
+        let (front, behind) = self.connection.pieces();
+        let (front, behind) = first_bytes(front, behind, most);
+        let size = front.len() + behind.len();
+        match send_again(&mut self.stream, front, behind) {
             Ok(0) => Err(EndFault::Write { requests: 0 }),
             Ok(count) => {
                 self.connection.took(count);
@@ -638,7 +628,7 @@ impl<S: Talks> Peer<S> {
         }
     }
 
-    /// Makes one write of what waits. A content that is lent follows by another one, if the peer took all that comes before it.
+    /// Makes one write of what waits. Of a content that is spelled the next bytes follow by another one, if the peer took all that come before them.
     pub(crate) fn send(&mut self, now: Duration) -> Result<(), EndFault>
         // Nothing waits for more than the peer.
         requires { self.old.state.hold ≡ None }

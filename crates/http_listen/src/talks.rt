@@ -1,9 +1,9 @@
 //! Streams that tell what they gave and took.
-ghost use Rattle.std.specs.Prelude.{◌≡◌, ◌<◌, [], length, take, None, Option, IfOk, MatchResult};
+ghost use Rattle.std.specs.Prelude.{◌≡◌, ◌<◌, ◌++◌, [], length, take, None, Option, IfOk, MatchResult};
 ghost use Rattle.std.specs.Io.{ReadsAtMost, WritesAtMost};
 ghost use Rattle.http_listen.specs.Talks.{Told, Grows, HasEnded};
 
-use std::io::{self, Read, Write};
+use std::io::{self, IoSlice, Read, Write};
 use std::net::TcpStream;
 
 /// A stream of bytes in both directions. What is proved of a connection is said in what its stream told: that of every stream, also of one
@@ -23,14 +23,14 @@ pub trait Talks {
             (λ _. Grows (told self.old) [] [] (told self.new)) }
         ensures ends { IfOk result (λ n. n ≡ 0 → 0 < length buf.old → HasEnded (told self.new)) };
 
-    /// Makes one write, which gives nothing.
+    /// Makes one write of these bytes and of those behind them, which gives nothing.
     ///
     /// # Errors
     ///
     /// That of the system. Nothing was written.
-    fn send(&mut self, buf: &[u8]) -> io::Result<usize>
-        ensures bound { WritesAtMost result buf.now }
-        ensures told { MatchResult result (λ n. Grows (told self.old) [] (take n buf.now) (told self.new))
+    fn send(&mut self, front: &[u8], behind: &[u8]) -> io::Result<usize>
+        ensures bound { WritesAtMost result (front.now ++ behind.now) }
+        ensures told { MatchResult result (λ n. Grows (told self.old) [] (take n (front.now ++ behind.now)) (told self.new))
             (λ _. Grows (told self.old) [] [] (told self.new)) };
 }
 
@@ -39,7 +39,12 @@ impl Talks for TcpStream {
         self.read(buf)
     }
 
-    fn send(&mut self, buf: &[u8]) -> io::Result<usize> {
-        self.write(buf)
+    fn send(&mut self, front: &[u8], behind: &[u8]) -> io::Result<usize> {
+        if behind.is_empty() {
+            return self.write(front);
+        }
+        // That of the socket, which is one call of the system: the trait's is one for each slice.
+        let stream: &TcpStream = self;
+        stream.write_vectored(&[IoSlice::new(front), IoSlice::new(behind)])
     }
 }
