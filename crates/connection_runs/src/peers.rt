@@ -298,15 +298,16 @@ impl Talks for Stream<'_> {
         }
     }
 
-    fn send(&mut self, buf: &[u8]) -> io::Result<usize> {
+    fn send(&mut self, front: &[u8], behind: &[u8]) -> io::Result<usize> {
         let peer = self.peer;
         if is_interrupted(&peer.signals) {
             return Err(ErrorKind::Interrupted.into());
         }
         let now = self.watch.now.get();
-        let count = peer.space(now).min(buf.len());
+        let size = front.len().saturating_add(behind.len());
+        let count = peer.space(now).min(size);
         let mut course = peer.course.get();
-        course.blocked = count < buf.len();
+        course.blocked = count < size;
         if count > 0 {
             course.last = now;
         }
@@ -314,7 +315,9 @@ impl Talks for Stream<'_> {
         if count == 0 {
             return Err(ErrorKind::WouldBlock.into());
         }
-        peer.take(&buf[..count])?;
+        let first = count.min(front.len());
+        peer.take(&front[..first])?;
+        peer.take(&behind[..count - first])?;
         peer.signals.set(1);
         Ok(count)
     }
