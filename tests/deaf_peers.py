@@ -175,8 +175,8 @@ def deaf_peers(cases, folder):
     cases.show("all end, none before its time", (status, log.count(b", write\n"), log.count(b", memory\n")), (0, log.count(b", write\n"), 0))
     status, log, memory = deaf_readers(cases, disk, 60)
     ended = re.findall(rb"connection (\d+): 0 requests, write\n", log)
-    # (the first one makes the tile, so others may wait for their peers before it does)
-    are_first = len(ended) >= 5 and all(int(number) <= 10 for number in ended[:5])
+    # (the first one makes the tile, so others may wait for their peers before it does, on a busy machine some ten)
+    are_first = len(ended) >= 5 and all(int(number) <= 20 for number in ended[:5])
     cases.show("beyond 256 MiB those that came first are ended", (status, are_first or ended[:5]), (0, True))
     cases.show("and the memory stays within twice that", memory < 2 * MAX_HELD or memory, True)
     count = MAX_HELD // len(HALF) + 10
